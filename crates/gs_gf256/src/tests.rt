@@ -1,0 +1,77 @@
+// Values from outside, a product by shifts and xors at all pairs, and sums of every short length.
+
+ghost use Rattle.std.specs.Prelude.{◌≤◌};
+
+use crate::{inv, mul, mul_add};
+use std::process::Abort;
+
+const LONGEST: usize = 70;
+
+#[test]
+fn inverses(rt: HostRuntime) {
+    assert_eq!(rt; inv(1), 1);
+    assert_eq!(rt; inv(2), 0x8E);
+    assert_eq!(rt; inv(3), 0xF4);
+}
+
+// The product of two polynomials of 8 bits, and its remainder from bit 14 down.
+fn shift_and_xor(a: u8, b: u8) -> u8 {
+    let mut product = 0u16;
+    for bit in 0..8u32 {
+        if b >> bit & 1 == 1 {
+            product ^= u16::from(a) << bit;
+        }
+    }
+    for bit in (8..15u32).rev() {
+        if product >> bit & 1 == 1 {
+            product ^= 0x11D << (bit - 8);
+        }
+    }
+    (product & 0xFF) as u8
+}
+
+#[test]
+fn products(rt: HostRuntime) {
+    for a in 0..=255u8 {
+        for b in 0..=255u8 {
+            assert_eq!(rt; mul(a, b), shift_and_xor(a, b));
+        }
+    }
+}
+
+// Bytes that differ from place to place.
+fn bytes_from(first: u8) -> [u8; LONGEST] {
+    let mut bytes = [0; LONGEST];
+    let mut byte = first;
+    for b in bytes.iter_mut() {
+        *b = byte;
+        byte = byte.wrapping_add(37);
+    }
+    bytes
+}
+
+fn expect_sums(rt: &impl Abort, length: usize, k: u8)
+    requires { length ≤ 70 }
+{
+    let source = bytes_from(k.wrapping_add(3));
+    let before = bytes_from(k.wrapping_mul(5));
+    let mut after = before;
+    mul_add(&mut after[..length], &source[..length], k);
+    for i in 0..LONGEST {
+        let sum = if i < length {
+            before[i] ^ mul(k, source[i])
+        } else {
+            before[i]
+        };
+        assert_eq!(rt; after[i], sum);
+    }
+}
+
+#[test]
+fn sums(rt: HostRuntime) {
+    for length in 0..=LONGEST {
+        for k in 0..=255u8 {
+            expect_sums(&rt, length, k);
+        }
+    }
+}

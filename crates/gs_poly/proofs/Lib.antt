@@ -1,0 +1,4 @@
+pub mod PolynomialLemmas
+pub mod Differences
+pub mod Roots
+pub mod Interpolation

@@ -1,0 +1,3 @@
+pub mod VideoHeads
+pub mod VideoReading
+mod Writes

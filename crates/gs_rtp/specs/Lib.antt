@@ -1,0 +1,4 @@
+pub mod Settings
+pub mod Video
+pub mod Stream
+pub mod Audio
