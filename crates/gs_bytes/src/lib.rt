@@ -1,0 +1,50 @@
+//! The base of every crate of Condorshelf: owned bytes, the fields of wire formats, and the traits
+//! through which a program reads and writes.
+//!
+//! - `Text` is a list of bytes to every contract.
+//! - The field readers and writers are those of `byteorder` at a place in a slice, and what was
+//!   written is read back. Big endian is network byte order (RFC 1700).
+//! - A `Source` gives its bytes in order and a `Sink` takes them in order. Each counts its faults:
+//!   a call that answers `Failed::Fault` and a write that takes nothing raise the count, which
+//!   stands still at `u64::MAX`, and every other call that succeeds leaves it. An object may tell
+//!   its contents to contracts, as those in memory do, or not, as a real file.
+//! - `write_all` and `read_up_to` are whole transfers over these traits: what they moved is exact
+//!   where it is told, and they answer a fault only where the object counted one.
+#![tactic(auto)]
+
+mod big_endian;
+mod calls;
+mod failed;
+mod field;
+mod little_endian;
+mod mem_sink;
+mod mem_source;
+mod out_of_memory;
+mod outside;
+mod sure_sink;
+mod sure_source;
+mod text;
+mod unread;
+mod whole;
+mod written;
+
+pub use big_endian::{
+    read_u16_be, read_u32_be, read_u64_be, write_u16_be, write_u32_be, write_u64_be,
+};
+pub use failed::Failed;
+pub use field::field_reads_back;
+pub use little_endian::{
+    read_i64_le, read_u16_le, read_u32_le, read_u64_le, write_i64_le, write_u16_le, write_u32_le,
+    write_u64_le,
+};
+pub use mem_sink::MemSink;
+pub use mem_source::MemSource;
+pub use out_of_memory::OutOfMemory;
+pub use outside::{Outside, Sink, Source};
+pub use sure_sink::SureSink;
+pub use sure_source::SureSource;
+pub use text::Text;
+pub use whole::{read_up_to, write_all};
+
+#[cfg(test)]
+mod tests;
