@@ -1,0 +1,10 @@
+pub mod Algebra
+pub mod Differences
+pub mod Points
+pub mod Codewords
+pub mod Rows
+pub mod Blocks
+pub mod Writes
+pub mod Restoring
+pub mod Present
+pub mod Restored

@@ -1,0 +1,4 @@
+pub mod Shape
+pub mod Codeword
+pub mod Restore
+pub mod Laws

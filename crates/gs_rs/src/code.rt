@@ -1,0 +1,86 @@
+// The two codes that callers make.
+ghost use Rattle.std.specs.Prelude.{◌≡◌, ◌+◌, ◌<◌, ◌⊎◌, ◌↔◌, IsErr, IfOk};
+ghost use Rattle.gs_rs.specs.declared.shape.Shape.{Shape};
+ghost use Rattle.gs_rs.specs.Shape.{IsCode, video_code, audio_code};
+
+use crate::shape::{Form, MAX_SHARDS, Shape};
+use std::marker::Model;
+
+const AUDIO_DATA: usize = 4;
+
+const AUDIO_PARITY: usize = 2;
+
+/// The counts of a code are out of range.
+#[derive(Clone, Copy, Debug, PartialEq, Eq)]
+pub struct BadCounts;
+
+/// An erasure code. Contracts see it as its counts and its form.
+#[derive(Clone, Copy, Debug, PartialEq, Eq)]
+pub struct Code {
+    shape: Shape,
+}
+
+impl Model for Code {
+    ghost Value = { Shape };
+
+    ghost view = { λ c. c.shape };
+
+    ghost invariant = { λ c. IsCode c.shape };
+
+    ghost inverse = { λ s. record { shape = s } };
+}
+
+impl Code {
+    /// The video code of `d` data shards and `p` parity shards.
+    pub fn video(d: usize, p: usize) -> Result<Code, BadCounts>
+        ensures bad_counts { IsErr result ↔ ((d ≡ 0) ⊎ (255 < d + p)) }
+        ensures code { IfOk result (λ code. code ≡ video_code d p) }
+    {
+        if d == 0 || d > MAX_SHARDS || p > MAX_SHARDS - d {
+            return Err(BadCounts);
+        }
+        Ok(Code {
+            shape: Shape {
+                data: d,
+                parity: p,
+                form: Form::Video,
+            },
+        })
+    }
+
+    /// The audio code, of four data shards and two parity shards.
+    pub fn audio() -> Code
+        ensures { result ≡ audio_code }
+    {
+        Code {
+            shape: Shape {
+                data: AUDIO_DATA,
+                parity: AUDIO_PARITY,
+                form: Form::Audio,
+            },
+        }
+    }
+
+    /// How many data shards a block has.
+    pub fn data(&self) -> usize
+        ensures count { result ≡ self.now.data }
+        ensures limits { IsCode self.now }
+    {
+        self.shape.data
+    }
+
+    /// How many parity shards a block has.
+    pub fn parity(&self) -> usize
+        ensures count { result ≡ self.now.parity }
+        ensures limits { IsCode self.now }
+    {
+        self.shape.parity
+    }
+
+    pub(crate) fn shape(&self) -> Shape
+        ensures counts { result ≡ self.now }
+        ensures limits { IsCode result }
+    {
+        self.shape
+    }
+}

@@ -1,0 +1,34 @@
+//! Erasure codes over GF(2^8): from D data shards of one length, P parity shards, such that any D of
+//! the D + P shards give back the others.
+//!
+//! There are two codes, those of the GameStream protocol. The video code, of any D and P with D at
+//! least 1 and D + P at most 255, is a systematic Cauchy Reed-Solomon code. The audio code has 4 data
+//! shards and 2 parity shards. In both, each shard has a point, and the bytes that the shards have at
+//! one place are the values there of one polynomial of degree below D, each divided by a number that
+//! only the point determines (specs/Codeword.antt).
+//!
+//! `Code::encode` writes the parity that makes a block. `Code::restore` writes the absent data shards
+//! of each block that has the chosen shards, the D present ones of lowest number, and there is always
+//! such a block. It writes nothing else, and answers `TooFew`, with nothing written, exactly where
+//! fewer than D shards are present. `code_laws` says that any D shards of a block determine it, that
+//! some block has D shards of any content, and that the polynomials give what the parity rows give.
+//!
+//! No call takes memory. `encode` makes D * P row operations (`gs_gf256::mul_add`) of `len` bytes.
+//! `restore` makes L * D of them for L absent data shards, and none where L is 0. Before them it finds
+//! the weights, free of `len`: what belongs to a present shard is found once a block, in at most
+//! 2 * D * D products and D inverses, and each absent data shard takes at most 4 * D products and
+//! D + 1 inverses more.
+#![tactic(auto)]
+
+mod code;
+mod encode;
+mod laws;
+mod restore;
+mod shape;
+#[cfg(test)]
+mod tests;
+
+pub use code::{BadCounts, Code};
+pub use laws::code_laws;
+pub use restore::TooFew;
+pub use shape::{Form, MAX_SHARDS, Shape};
