@@ -1,0 +1,10 @@
+pub mod Image
+pub mod Plan
+pub mod Datagrams
+pub mod Received
+pub mod Complete
+pub mod Handed
+pub mod Lone
+pub mod LoneLaws
+pub mod ImageLaws
+pub mod PlanLaws

@@ -1,0 +1,4 @@
+pub mod Video
+pub mod Audio
+pub mod Paired
+pub mod StreamLaws

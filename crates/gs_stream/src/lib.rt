@@ -1,0 +1,11 @@
+//! A host's history as datagrams, and what joins it to what a client received.
+//!
+//! The definitions are in specs/: all video datagrams of a history in the order in which they went out
+//! (`video_stream`), the unit and the reference of each frame (`unit_of`, `reference_of`), all audio
+//! datagrams (`audio_stream`), and which pairs of a history and a list of what came can stand together
+//! (`IsPaired`). The crate's functions have no body: each is a law about them, which its contract states.
+#![tactic(auto)]
+
+mod laws;
+
+pub use laws::{lone_streams, streams_only_grow};
