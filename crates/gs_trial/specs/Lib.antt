@@ -1,0 +1,9 @@
+pub mod Schedule
+pub mod Output
+pub mod Run
+pub mod Forms
+pub mod Words
+pub mod Trial
+pub mod Standing
+pub mod Counting
+pub mod Built

@@ -1,0 +1,71 @@
+-- What a trial promises of its inputs and its output. What an object doesn't tell is `None`.
+use Rattle.std.specs.Prelude.{ℕ, ◌≡◌, ◌+◌, ◌≤◌, Bool, List, [], ◌∷◌, length, Option}
+use Rattle.std.specs.Io.KnownBytes.{Appends, Consumes, IsAtEnd}
+use Rattle.std.specs.List.{AllByRecursion}
+use Rattle.gs_bytes.specs.Outside.{AppendsPart, SetsFlag}
+use Rattle.gs_refs.specs.History.{frames}
+use Rattle.gs_frames.specs.Handed.{handed, Handed}
+use Rattle.gs_stream.specs.Video.{unit_of}
+use Rattle.gs_trial.specs.declared.step.Step.{Step}
+use Rattle.gs_trial.specs.Run.{Tape, Session, State, start, tape_of, after, text_of}
+use Rattle.gs_trial.specs.Forms.{most_input, IsBuilt}
+
+-- what an input tells before a call and behind it: the bytes left, those read, whether a read met the end
+pub record Told : Type 0 where
+  pub left : Option (List ℕ)
+  pub taken : Option (List ℕ)
+  pub met_end : Option Bool
+
+abbrev pub told : Option (List ℕ) → Option (List ℕ) → Option Bool → Told
+told left taken met_end = record { left = left; taken = taken; met_end = met_end }
+
+-- These bytes were read of an input: all that there were, unless they are too many to be run.
+pub record WasRead (before now : Told) (bytes : List ℕ) : Type 0 where
+  pub left : Consumes before.left now.left bytes
+  pub taken : Appends before.taken now.taken bytes
+  pub bound : length bytes ≤ most_input + 1
+  pub at_end : length bytes ≤ most_input → IsAtEnd now.left
+  pub met_end : length bytes ≤ most_input → SetsFlag before.met_end now.met_end
+
+-- the state behind all of the steps
+unfoldable pub behind : Tape → State → List Step → State
+behind tape state [] = state
+behind tape state (s ∷ steps) = behind tape (after tape state s) steps
+
+-- a frame that was sent, with its captured unit
+pub record IsCaptured (tape : Tape) (session : Session) (handed : Handed) : Type 0 where
+  pub sent_least : 1 ≤ handed.frame
+  pub sent_greatest : handed.frame ≤ frames session.history
+  pub unit : handed.unit ≡ unit_of tape.ticks session.history handed.frame
+
+-- each frame that a session's client was handed was sent, and is byte for byte the captured unit of it
+abbrev pub HandsCaptured : Tape → Session → Type 0
+HandsCaptured tape session = AllByRecursion (IsCaptured tape session) (handed session.settings session.came)
+
+-- Both inputs were read, and what they hold is run today.
+pub record IsRun (tape_before tape_now schedule_before schedule_now : Told) (tape schedule : List ℕ) (steps : List Step) : Type 0 where
+  pub tape_read : WasRead tape_before tape_now tape
+  pub schedule_read : WasRead schedule_before schedule_now schedule
+  pub built : IsBuilt tape schedule steps
+  pub captured : AllByRecursion (HandsCaptured (tape_of tape)) (behind (tape_of tape) start steps).sessions
+
+-- the whole text of the run was written
+abbrev pub WritesText : Told → Told → Told → Told → Option (List ℕ) → Option (List ℕ) → Type 0
+WritesText tape_before tape_now schedule_before schedule_now written_before written_now =
+    (tape : List ℕ) × (schedule : List ℕ) × (steps : List Step)
+    × IsRun tape_before tape_now schedule_before schedule_now tape schedule steps
+    × Appends written_before written_now (text_of tape steps)
+
+-- a part of it, from its front
+abbrev pub WritesPart : Told → Told → Told → Told → Option (List ℕ) → Option (List ℕ) → Type 0
+WritesPart tape_before tape_now schedule_before schedule_now written_before written_now =
+    (tape : List ℕ) × (schedule : List ℕ) × (steps : List Step)
+    × IsRun tape_before tape_now schedule_before schedule_now tape schedule steps
+    × AppendsPart written_before written_now (text_of tape steps)
+
+-- both inputs were read, and what they hold isn't run today
+abbrev pub ReadsOther : Told → Told → Told → Told → Type 0
+ReadsOther tape_before tape_now schedule_before schedule_now =
+    (tape : List ℕ) × (schedule : List ℕ)
+    × WasRead tape_before tape_now tape × WasRead schedule_before schedule_now schedule
+    × ((steps : List Step) → IsBuilt tape schedule steps → ⊥)
