@@ -1,0 +1,4 @@
+pub mod Numbers
+pub mod Split
+pub mod Keys
+pub mod Lines
