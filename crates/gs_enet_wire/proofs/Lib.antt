@@ -1,0 +1,9 @@
+pub mod FieldLemmas
+pub mod Table
+pub mod OneCommand
+pub mod Datagrams
+pub mod Readers
+pub mod Faults
+pub mod HeaderReaders
+pub mod OneReading
+pub mod Writers

@@ -1,0 +1,34 @@
+-- An answer that is right is the only right one.
+use Rattle.std.proofs.Common.{◌≡◌, ℕ, ◌-◌, ◌<◌, ◌≤◌, Bool, List, [], length, Result, Ok, Err, ◌⊎◌, inl, inr, refl, ap, subst, arith}
+use Rattle.std.specs.Prelude.{IfOk, IfErr, is_some}
+use Rattle.gs_enet_wire.specs.declared.datagram.Datagram.{Datagram}
+use Rattle.gs_enet_wire.specs.declared.error.WireError.{WireError}
+use Rattle.gs_enet_wire.specs.declared.error.WireError.TheVariants.{BadDatagram, OutOfMemory}
+use Rattle.gs_enet_wire.specs.declared.read_header.Header.{Header}
+use Rattle.gs_enet_wire.specs.Grammar.{most_bytes, header_length, Spells, StopsAt, IsFault, IsFaultAt}
+use Rattle.gs_enet_wire.specs.ReadingHeader.{TakesHeader, StopsWith, with_header}
+use Rattle.gs_enet_wire.proofs.Datagrams.{headed, not_both, one_value, one_place}
+use Rattle.gs_enet_wire.proofs.Faults.{fault_stops}
+
+pub found_only : (bytes : List ℕ) (r : Result Datagram WireError) → IfOk r (Spells bytes) → IfErr r (IsFault bytes)
+    → (d : Datagram) → Spells bytes d → (r ≡ Ok d) ⊎ (r ≡ Err OutOfMemory)
+found_only bytes (Ok e) found fault d s = inl (ap (λ (x : Datagram). Ok x) (one_value bytes e d found s))
+found_only bytes (Err (BadDatagram place)) found fault d s = absurd (not_both bytes d place s fault)
+found_only bytes (Err OutOfMemory) found fault d s = inr refl
+
+pub fault_only : (bytes : List ℕ) (r : Result Datagram WireError) → IfOk r (Spells bytes) → IfErr r (IsFault bytes)
+    → (place : ℕ) → IsFaultAt bytes place → (r ≡ Err (BadDatagram place)) ⊎ (r ≡ Err OutOfMemory)
+fault_only bytes (Ok e) found fault place f = absurd (not_both bytes e place found f)
+fault_only bytes (Err (BadDatagram other)) found fault place f = inl (ap (λ (n : ℕ). Err (BadDatagram n)) (one_place bytes other place fault f))
+fault_only bytes (Err OutOfMemory) found fault place f = inr refl
+
+-- why the commands were refused is why the bytes are
+pub stopped : (bytes body : List ℕ) (h : Header) (t : Bool) (start : ℕ) (e : WireError) → length bytes ≤ most_bytes → TakesHeader h bytes body → 0 < length body
+    → t ≡ is_some h.sent → start ≡ length bytes - length body → StopsWith t start body e → IsFault bytes e
+stopped bytes body h t start (BadDatagram place) short taken some timed begins stops =
+    let known = headed bytes body (with_header h []) taken.has_header taken.parts in
+    let at_header : start ≡ header_length bytes = omega (arith, known.len) in
+    let one : StopsAt (is_some h.sent) start body place = subst (λ (b : Bool). StopsAt b start body place) timed stops in
+    let two : StopsAt (is_some h.sent) (header_length bytes) body place = subst (λ (n : ℕ). StopsAt (is_some h.sent) n body place) at_header one in
+    fault_stops bytes body (with_header h []) place short taken.has_header taken.parts some two
+stopped bytes body h t start OutOfMemory short taken some timed begins stops = tt

@@ -1,0 +1,5 @@
+use Rattle.gs_enet_wire.proofs.Writers.{fields_then}
+use Rattle.gs_enet_wire.proofs.write_fields.put_piece.Goals as goal
+
+pub returns : goal.returns
+returns c = fields_then c.put_pair-place.ensures (fields_then c.put_rates-place.ensures c.put_rates.ensures)

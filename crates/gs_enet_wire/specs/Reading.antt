@@ -1,0 +1,47 @@
+-- What a reader takes from the front of the bytes.
+use Rattle.std.specs.Prelude.{◌≡◌, ℕ, ◌/◌, ◌%◌, ◌<◌, List, [], ◌∷◌, ◌++◌, Bool}
+use Rattle.gs_enet_wire.specs.declared.command.Command.{Command}
+use Rattle.gs_enet_wire.specs.declared.command.Connect.{Connect}
+use Rattle.gs_enet_wire.specs.declared.head.Head.{Head}
+use Rattle.gs_enet_wire.specs.Grammar.{Field, u8, u16, u32, fields_bytes, Fit, head, kind, fields, payload, asking, IsCommand}
+
+-- the old bytes are those fields and then the new bytes
+pub record Takes (fs : List Field) (old new : List ℕ) : Type 0 where
+  pub parts : old ≡ fields_bytes fs ++ new
+  pub fit : Fit fs
+
+-- what a connect and its answer have in common
+abbrev pub shared_fields : Connect → List Field
+shared_fields c =
+    u16 c.peer ∷ u8 c.incoming ∷ u8 c.outgoing ∷ u32 c.mtu ∷ u32 c.window ∷ u32 c.channels ∷ u32 c.incoming_bandwidth ∷ u32 c.outgoing_bandwidth
+    ∷ u32 c.throttle_interval ∷ u32 c.acceleration ∷ u32 c.deceleration ∷ u32 c.connect_id ∷ []
+
+-- the old bytes are the head of a command of that kind, and then the new bytes
+pub record TakesHead (k : ℕ) (h : Head) (old new : List ℕ) : Type 0 where
+  pub first : ℕ
+  pub small : first < 256
+  pub low : first % 16 ≡ k
+  pub high : first / 128 ≡ asking h.asks
+  pub parts : old ≡ first ∷ (fields_bytes (u8 h.channel ∷ u16 h.number ∷ []) ++ new)
+  pub fit : Fit (u8 h.channel ∷ u16 h.number ∷ [])
+
+-- a command without its head
+abbrev pub body : Command → List ℕ
+body c = fields_bytes (fields c) ++ payload c
+
+-- the old bytes are the body of a command of that kind and head, and then the new bytes
+pub record TakesBody (k : ℕ) (h : Head) (c : Command) (old new : List ℕ) : Type 0 where
+  pub is_kind : kind c ≡ k
+  pub is_head : head c ≡ h
+  pub parts : old ≡ body c ++ new
+  pub fit : Fit (fields c)
+
+-- the bytes don't begin with the body of a command of that kind
+abbrev pub BeginsNoBody : ℕ → List ℕ → Type 0
+BeginsNoBody k bytes = (c : Command) (rest : List ℕ) → kind c ≡ k → Fit (fields c) → bytes ≡ body c ++ rest → ⊥
+
+-- the old bytes are a command and then the new bytes
+pub record TakesCommand (timed : Bool) (c : Command) (old new : List ℕ) : Type 0 where
+  pub front : List ℕ
+  pub parts : old ≡ front ++ new
+  pub is_command : IsCommand timed front c

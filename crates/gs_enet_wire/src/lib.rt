@@ -1,0 +1,35 @@
+//! Datagrams of the ENet 1.3 protocol, read from bytes and written as bytes.
+//!
+//! A datagram is a header and one or more of the protocol's twelve commands, up to its end. Numbers
+//! are in network byte order. The grammar is a definition on bytes and values (`specs/Grammar.antt`),
+//! with the protocol's field names. `read` answers the one datagram that the bytes spell, or the
+//! place of the first fault; `write` writes the datagram's spelling with each ignored bit at 0.
+#![tactic(auto)]
+
+mod command;
+mod commands;
+mod cursor;
+mod datagram;
+mod error;
+mod head;
+mod laws;
+mod pen;
+mod piece;
+mod read_body;
+mod read_command;
+mod read_data;
+mod read_header;
+mod reading;
+mod write_fields;
+mod writing;
+
+pub use command::{Command, Connect};
+pub use commands::Commands;
+pub use datagram::Datagram;
+pub use error::WireError;
+pub use laws::{one_reading, one_spelling, written_is_read};
+pub use reading::read;
+pub use writing::write;
+
+#[cfg(test)]
+mod tests;
