@@ -1,0 +1,13 @@
+pub mod Parts
+pub mod Tokens
+pub mod Numbers
+pub mod Trims
+pub mod HeaderLines
+pub mod FirstLines
+pub mod Rest
+pub mod Heads
+pub mod Decided
+pub mod Scans
+pub mod Answered
+pub mod Written
+pub mod Decimals

@@ -1,0 +1,188 @@
+-- Reading, part by part: each answers what it read and the bytes behind it, or where it stops.
+use Rattle.std.specs.Prelude.{◌≡◌, ℕ, zero, suc, ◌≤◌, ◌+◌, ◌-◌, ◌*◌, ◌^◌, Bool, true, false, ◌&&◌, ◌||◌, ◌==◌, nat_le, List, [], ◌∷◌, ◌++◌, length, take, drop, codes, Option, Some, None, Result, Ok, Err, if◌then◌else◌}
+use Rattle.gs_rtsp_text.specs.declared.header.Header.{Header}
+use Rattle.gs_rtsp_text.specs.declared.message.Method.{Method}
+use Rattle.gs_rtsp_text.specs.declared.message.Method.TheVariants.{Options, Describe, Setup, Announce, Play}
+use Rattle.gs_rtsp_text.specs.declared.stop.Stop.{Stop}
+use Rattle.gs_rtsp_text.specs.declared.stop.Stop.TheVariants.{More, Bad}
+use Rattle.gs_rtsp_text.specs.declared.stop.ReadError.{ReadError}
+use Rattle.gs_rtsp_text.specs.declared.stop.ReadError.TheVariants as errors
+use Rattle.gs_rtsp_text.specs.declared.message.TextError.{TextError}
+use Rattle.gs_rtsp_text.specs.declared.message.TextError.TheVariants as text_errors
+use Rattle.gs_rtsp_text.specs.Bytes.{crlf, is_digit, is_name_byte, is_value_byte, is_target_byte, is_space, without_first_spaces, trimmed}
+use Rattle.gs_rtsp_text.specs.Lines.{method_name, is_cseq, cseq_count, body_length}
+use Rattle.gs_rtsp_text.specs.Message.{Answer, Whole, BadText, More as Unfinished, head_limit}
+
+infixl 10 ◌>>=◌
+abbrev pub ◌>>=◌ : {A B : Type 0} → Result A Stop → (A → Result B Stop) → Result B Stop
+(Ok x) >>= f = f x
+(Err e) >>= f = Err e
+
+-- What a function that takes no memory returned, seen by view, is what reading gives.
+abbrev pub Stops : {X Y : Type 0} → (X → Y) → Result X Stop → Result Y Stop → Type 0
+Stops view (Ok x) read = read ≡ Ok (view x)
+Stops view (Err e) read = read ≡ Err e
+
+-- What a function returned, seen by view, is what reading gives, unless memory ran out.
+abbrev pub Fails : {Y : Type 0} → ReadError → Result Y Stop → Type 0
+Fails errors.OutOfMemory read = Unit {0}
+Fails (errors.Stop s) read = read ≡ Err s
+
+abbrev pub Gives : {X Y : Type 0} → (X → Y) → Result X ReadError → Result Y Stop → Type 0
+Gives view (Ok x) read = read ≡ Ok (view x)
+Gives view (Err e) read = Fails e read
+
+-- what a part gave, behind a byte that it begins with
+abbrev pub with_first : ℕ → Result (List ℕ × List ℕ) Stop → Result (List ℕ × List ℕ) Stop
+with_first b read = read >>= λ x. Ok (b ∷ x.0, x.1)
+
+-- these very bytes
+abbrev pub literal_at : List ℕ → List ℕ → Result (List ℕ) Stop
+literal_at [] s = Ok s
+literal_at (c ∷ cs) [] = Err More
+literal_at (c ∷ cs) (b ∷ s) = if b == c then literal_at cs s else Err (Bad (length (b ∷ s)))
+
+-- bytes that pass, up to a byte that ends them; it may stand at once where may_end is true
+abbrev pub token_at : (ℕ → Bool) → ℕ → Bool → List ℕ → Result (List ℕ × List ℕ) Stop
+token_at passes last may_end [] = Err More
+token_at passes last may_end (b ∷ s) =
+    if passes b then with_first b (token_at passes last true s) else (if may_end && b == last then Ok ([], s) else Err (Bad (length (b ∷ s))))
+
+-- further digits of a number below 2 ^ 31, behind those that stand for n
+abbrev pub digits_at : ℕ → List ℕ → Result (List ℕ × List ℕ) Stop
+digits_at n [] = Err More
+digits_at n (b ∷ s) =
+    if is_digit b then (if n == 0 || nat_le (2 ^ 31) (10 * n + (b - 48)) then Err (Bad (length (b ∷ s))) else with_first b (digits_at (10 * n + (b - 48)) s)) else Ok ([], b ∷ s)
+
+abbrev pub number_at : List ℕ → Result (List ℕ × List ℕ) Stop
+number_at [] = Err More
+number_at (b ∷ s) = if is_digit b then with_first b (digits_at (b - 48) s) else Err (Bad (length (b ∷ s)))
+
+-- the value of a CSeq, to the end of its line
+unfoldable pub sequence_at : List ℕ → Result (List ℕ × List ℕ) Stop
+sequence_at s = do
+  digits ← number_at (without_first_spaces s)
+  after ← token_at is_space 13 true digits.1
+  rest ← literal_at (10 ∷ []) after.1
+  Ok (digits.0, rest)
+
+-- the value of another header, to the end of its line
+unfoldable pub value_at : List ℕ → Result (List ℕ × List ℕ) Stop
+value_at s = do
+  raw ← token_at is_value_byte 13 true s
+  rest ← literal_at (10 ∷ []) raw.1
+  Ok (trimmed raw.0, rest)
+
+abbrev pub value_of_at : List ℕ → List ℕ → Result (List ℕ × List ℕ) Stop
+value_of_at name s = if is_cseq name then sequence_at s else value_at s
+
+unfoldable pub header_at : List ℕ → Result (Header × List ℕ) Stop
+header_at s = do
+  name ← token_at is_name_byte 58 false s
+  value ← value_of_at name.0 name.1
+  Ok (record { name = name.0; value = value.0 }, value.1)
+
+-- the length of the body, where the headers are right
+abbrev pub length_if_right : (ℕ → Bool) → List Header → Option ℕ
+length_if_right may_have hs = if may_have (cseq_count hs) then body_length hs else None
+
+-- The rest of a head behind some headers, for a number of lines at most.
+abbrev pub empty_line_at : List Header → Option ℕ → List ℕ → Result ((List Header × ℕ) × List ℕ) Stop
+empty_line_at hs None s = Err (Bad (length s))
+empty_line_at hs (Some n) s = literal_at crlf s >>= λ rest. Ok ((hs, n), rest)
+
+abbrev pub begins_with_cr : List ℕ → Bool
+begins_with_cr [] = false
+begins_with_cr (b ∷ s) = b == 13
+
+unfoldable pub lines_at : (ℕ → Bool) → ℕ → List Header → List ℕ → Result ((List Header × ℕ) × List ℕ) Stop
+lines_at may_have zero hs s = Err More
+lines_at may_have (suc n) hs s =
+    if begins_with_cr s then empty_line_at hs (length_if_right may_have hs) s else (header_at s >>= λ h. lines_at may_have n (hs ++ h.0 ∷ []) h.1)
+
+-- Each line takes a byte or more, so this is enough.
+unfoldable pub rest_of_head : (ℕ → Bool) → List Header → List ℕ → Result ((List Header × ℕ) × List ℕ) Stop
+rest_of_head may_have hs s = lines_at may_have (suc (length s)) hs s
+
+-- ---- first lines
+
+-- a method and the space behind it
+abbrev pub word : Method → List ℕ
+word m = method_name m ++ 32 ∷ []
+
+abbrev pub this_method : Method → List ℕ → Result (Method × List ℕ) Stop
+this_method m s = literal_at (word m) s >>= λ rest. Ok (m, rest)
+
+unfoldable pub method_at : List ℕ → Result (Method × List ℕ) Stop
+method_at [] = Err More
+method_at (b ∷ s) =
+    if b == 79 then this_method Options (b ∷ s) else (if b == 68 then this_method Describe (b ∷ s) else (if b == 83 then this_method Setup (b ∷ s) else (if b == 65 then this_method Announce (b ∷ s) else (if b == 80 then this_method Play (b ∷ s) else Err (Bad (length (b ∷ s)))))))
+
+unfoldable pub request_line_at : List ℕ → Result ((Method × List ℕ) × List ℕ) Stop
+request_line_at s = do
+  method ← method_at s
+  target ← token_at is_target_byte 32 false method.1
+  rest ← literal_at (codes "RTSP/1.0" ++ crlf) target.1
+  Ok ((method.0, target.0), rest)
+
+unfoldable pub digit_at : List ℕ → Result (ℕ × List ℕ) Stop
+digit_at [] = Err More
+digit_at (b ∷ s) = if is_digit b then Ok (b - 48, s) else Err (Bad (length (b ∷ s)))
+
+unfoldable pub status_line_at : List ℕ → Result (ℕ × List ℕ) Stop
+status_line_at s = do
+  version ← literal_at (codes "RTSP/1.0 ") s
+  a ← digit_at version
+  b ← digit_at a.1
+  c ← digit_at b.1
+  behind ← literal_at (32 ∷ []) c.1
+  reason ← token_at is_value_byte 13 true behind
+  rest ← literal_at (10 ∷ []) reason.1
+  Ok (100 * a.0 + 10 * b.0 + c.0, rest)
+
+-- ---- heads and messages
+
+-- a head: what its first line says, its headers and the length of the body
+unfoldable pub head_by : {S : Type 0} → (List ℕ → Result (S × List ℕ) Stop) → (ℕ → Bool) → List ℕ → Result ((S × (List Header × ℕ)) × List ℕ) Stop
+head_by first may_have s = do
+  start ← first s
+  rest ← rest_of_head may_have [] start.1
+  Ok ((start.0, rest.0), rest.1)
+
+-- behind a head that ends at the place lies a body of n bytes, or less so far
+abbrev pub body_answer : {S : Type 0} → List ℕ → ℕ → S → List Header → ℕ → Answer S
+body_answer bytes place start headers n =
+    if nat_le (place + n) (length bytes) then Whole (record { start = start; headers = headers; body = take n (drop place bytes) }) (place + n) else Unfinished
+
+-- the bytes that are left at a stop are some of these
+abbrev pub IsWithin : List ℕ → Stop → Type 0
+IsWithin bytes More = Unit {0}
+IsWithin bytes (Bad left) = left ≤ length bytes
+
+abbrev pub IsErrorWithin : List ℕ → ReadError → Type 0
+IsErrorWithin bytes errors.OutOfMemory = Unit {0}
+IsErrorWithin bytes (errors.Stop stop) = IsWithin bytes stop
+
+-- what is left of the bytes is some of them
+abbrev pub ReadsWithin : {X : Type 0} → (X → List ℕ) → List ℕ → Result X ReadError → Type 0
+ReadsWithin rest bytes (Ok x) = length (rest x) ≤ length bytes
+ReadsWithin rest bytes (Err e) = IsErrorWithin bytes e
+
+-- the place of the first wrong byte, where there is one
+abbrev pub stop_place : List ℕ → Stop → Option ℕ
+stop_place bytes More = if nat_le head_limit (length bytes) then Some head_limit else None
+stop_place bytes (Bad left) = Some (length (take head_limit bytes) - left)
+
+abbrev pub place_answer : {S : Type 0} → Option ℕ → Answer S
+place_answer None = Unfinished
+place_answer (Some place) = BadText place
+
+-- the answer by what was read of the first 4,096 bytes
+abbrev pub answer_by : {S : Type 0} → List ℕ → Result ((S × (List Header × ℕ)) × List ℕ) Stop → Answer S
+answer_by bytes (Ok x) = body_answer bytes (length (take head_limit bytes) - length x.1) x.0.0 x.0.1.0 x.0.1.1
+answer_by bytes (Err stop) = place_answer (stop_place bytes stop)
+
+-- the place by an error, unless memory ran out
+abbrev pub GivesPlace : List ℕ → ReadError → Result (Option ℕ) TextError → Type 0
+GivesPlace bytes errors.OutOfMemory result = result ≡ Err text_errors.OutOfMemory
+GivesPlace bytes (errors.Stop stop) result = result ≡ Ok (stop_place bytes stop)

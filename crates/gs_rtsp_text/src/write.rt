@@ -1,0 +1,112 @@
+//! Writing requests and responses.
+
+ghost use Rattle.std.specs.Prelude.{◌≡◌, ◌<◌, ◌++◌, codes, IfOk, OnOk};
+ghost use Rattle.std.specs.List.{flat_map};
+ghost use Rattle.gs_rtsp_text.specs.Lines.{method_name, three_digits};
+ghost use Rattle.gs_rtsp_text.specs.Writing.{header_text, request_line_text, status_line_text, reason_of, request_text, response_text, IsSendableRequest, IsSendableResponse};
+
+use crate::header::Header;
+use crate::message::{Method, Request, Response};
+use gs_bytes::{OutOfMemory, Text};
+use std::alloc::{AllocError, Global};
+
+fn push_header(out: &mut Vec<u8>, header: &Header) -> Result<(), AllocError>
+    ensures { OnOk result (out.new.items ≡ out.old.items ++ header_text header.now) }
+{
+    out.extend_from_slice(header.name.as_bytes())?;
+    out.extend_from_slice(b": ")?;
+    out.extend_from_slice(header.value.as_bytes())?;
+    out.extend_from_slice(b"\r\n")
+}
+
+fn push_headers(out: &mut Vec<u8>, headers: &[Header]) -> Result<(), AllocError>
+    ensures { OnOk result (out.new.items ≡ out.old.items ++ flat_map header_text headers.now) }
+{
+    for header in headers {
+        push_header(out, header)?;
+    }
+    Ok(())
+}
+
+fn name_of(method: Method) -> &'static [u8]
+    ensures { result.now ≡ method_name method }
+{
+    match method {
+        Method::Options => b"OPTIONS",
+        Method::Describe => b"DESCRIBE",
+        Method::Setup => b"SETUP",
+        Method::Announce => b"ANNOUNCE",
+        Method::Play => b"PLAY",
+    }
+}
+
+fn push_request_line(out: &mut Vec<u8>, method: Method, target: &[u8]) -> Result<(), AllocError>
+    ensures { OnOk result (out.new.items ≡ out.old.items ++ request_line_text method target.now) }
+{
+    out.extend_from_slice(name_of(method))?;
+    out.extend_from_slice(b" ")?;
+    out.extend_from_slice(target)?;
+    out.extend_from_slice(b" RTSP/1.0")?;
+    out.extend_from_slice(b"\r\n")
+}
+
+/// The words behind a code.
+fn reason(code: u16) -> &'static [u8]
+    ensures { result.now ≡ reason_of code }
+{
+    match code {
+        200 => b"OK",
+        400 => b"Bad Request",
+        454 => b"Session Not Found",
+        455 => b"Method Not Valid in This State",
+        _ => b"",
+    }
+}
+
+fn digits_of(code: u16) -> [u8; 3]
+    requires { code < 1000 }
+    ensures { result ≡ three_digits code }
+{
+    [
+        b'0' + (code / 100) as u8,
+        b'0' + (code / 10 % 10) as u8,
+        b'0' + (code % 10) as u8,
+    ]
+}
+
+fn push_status_line(out: &mut Vec<u8>, code: u16) -> Result<(), AllocError>
+    requires { code < 1000 }
+    ensures { OnOk result (out.new.items ≡ out.old.items ++ status_line_text code) }
+{
+    out.extend_from_slice(b"RTSP/1.0 ")?;
+    out.extend_from_slice(&digits_of(code))?;
+    out.extend_from_slice(b" ")?;
+    out.extend_from_slice(reason(code))?;
+    out.extend_from_slice(b"\r\n")
+}
+
+/// The text of a request.
+pub fn write_request(alloc: Global, request: &Request) -> Result<Text, OutOfMemory>
+    requires { IsSendableRequest request.now }
+    ensures { IfOk result (λ text. text ≡ request_text request.now) }
+{
+    let mut out = Vec::new(alloc);
+    push_request_line(&mut out, request.method, request.target.as_bytes())?;
+    push_headers(&mut out, request.headers.as_slice())?;
+    out.extend_from_slice(b"\r\n")?;
+    out.extend_from_slice(request.body.as_bytes())?;
+    Ok(Text::from_vec(out))
+}
+
+/// The text of a response.
+pub fn write_response(alloc: Global, response: &Response) -> Result<Text, OutOfMemory>
+    requires { IsSendableResponse response.now }
+    ensures { IfOk result (λ text. text ≡ response_text response.now) }
+{
+    let mut out = Vec::new(alloc);
+    push_status_line(&mut out, response.code)?;
+    push_headers(&mut out, response.headers.as_slice())?;
+    out.extend_from_slice(b"\r\n")?;
+    out.extend_from_slice(response.body.as_bytes())?;
+    Ok(Text::from_vec(out))
+}
