@@ -3,11 +3,10 @@
 
 Run it at the top of the repository after `rt ci` or, in crates/gstrial, `rt run`. For each size it
 makes a capture file and a schedule of about that many bytes in a temporary folder, runs the program
-several times, and prints the median of the wall time and the time per run of an empty schedule taken
-off it, so that starting the process isn't counted.
+several times, and prints the least wall time, and that less the time of a run with nothing to do, so
+that starting the process isn't counted.
 """
 import pathlib
-import statistics
 import subprocess
 import sys
 import tempfile
@@ -15,7 +14,7 @@ import time
 
 PROGRAM = pathlib.Path(__file__).resolve().parent.parent / "crates/gstrial/out/gstrial"
 SIZES = [7_500, 15_000, 30_000, 60_000]
-RUNS = 41
+RUNS = 201
 UNIT = 14  # bytes of an IDR unit; a tick is 11 bytes more
 
 
@@ -38,17 +37,19 @@ def schedule(ticks, size):
     return text.encode()
 
 
-def median_ms(folder, tape, steps):
+def least_ms(folder, tape, steps):
     tape_file, steps_file = folder / "tape", folder / "schedule"
     tape_file.write_bytes(tape)
     steps_file.write_bytes(steps)
     words = [PROGRAM, "script", "bytes", tape_file, steps_file]
+    text_file = folder / "text"
     times = []
     for _ in range(RUNS):
-        begin = time.perf_counter()
-        done = subprocess.run(words, stdout=subprocess.PIPE, check=True)
-        times.append((time.perf_counter() - begin) * 1000)
-    return statistics.median(times), done.stdout
+        with text_file.open("wb") as text:
+            begin = time.perf_counter()
+            subprocess.run(words, stdout=text, check=True)
+            times.append((time.perf_counter() - begin) * 1000)
+    return min(times), text_file.read_bytes()
 
 
 def main():
@@ -56,12 +57,12 @@ def main():
         sys.exit(f"{PROGRAM} is missing: run `rt run` in crates/gstrial first")
     with tempfile.TemporaryDirectory() as name:
         folder = pathlib.Path(name)
-        start, _ = median_ms(folder, capture(0), b"")
+        start, _ = least_ms(folder, capture(0), b"")
         print(f"start of the process: {start:.2f} ms")
         for size in SIZES:
             ticks = size // (UNIT + 11)
             tape, steps = capture(ticks), schedule(ticks, size)
-            whole, text = median_ms(folder, tape, steps)
+            whole, text = least_ms(folder, tape, steps)
             handed = sum(line.startswith(b"hand ") for line in text.split(b"\n"))
             print(
                 f"{len(tape)} bytes of capture, {len(steps)} of schedule, {handed} frames handed: "
