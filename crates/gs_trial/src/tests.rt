@@ -17,6 +17,60 @@ const FIVE: &[u8] = b"GSTAPE01\x00\x00\x0A\x00\
     T\x21\x00\x00\x00\x00\x00\x00\x00\x00\x00\
     T\xFF\xFF\xFF\xFF\x00\x00\x02\x00\x00\x00\n\nE";
 
+// Schedules, and the text of each over the five ticks.
+const ROWS: [(&[u8], &[u8]); 14] = [
+    (b"", b"ok\n"),
+    (b"session 1440 0 0", b"total 1 0 0 0 0 0\nok\n"),
+    (
+        b"session 1024 0 0\nsend 1\ncap\ncap\n",
+        b"total 1 0 0 0 0 0\nok\n",
+    ),
+    (
+        b"session 1024 0 0\ncap\nsend 1\nsend 1\n",
+        b"sent 1 1 2 1 0\ntotal 1 1 0 0 0 0\nok\n",
+    ),
+    (
+        b"session 1024 0 0\ncap\nsend 1\ncap\nsend 1\n",
+        b"sent 1 1 2 1 0\nsent 1 2 2 2 0\ntotal 1 2 0 0 0 0\nok\n",
+    ),
+    (
+        b"session 1024 0 0\ncap\nsend 1\nvideo 1 1\nvideo 1 1\nvideo 1 1\n",
+        b"sent 1 1 2 1 0\nhand 1 1 2 1\nA\ntotal 1 1 1 0 0 0\nok\n",
+    ),
+    (
+        b"session 1024 0 0\ncap\nsend 1\nvideo 1 1\nsend 1\nvideo 1 1\n",
+        b"sent 1 1 2 1 0\nhand 1 1 2 1\nA\ntotal 1 1 1 0 0 0\nok\n",
+    ),
+    (
+        b"session 1024 0 0\ncap\nsend 1\nvideo 1 1\ncap\nsend 1\nvideo 1 2\n",
+        b"sent 1 1 2 1 0\nhand 1 1 2 1\nA\nsent 1 2 2 2 0\nhand 1 2 2 2\nBC\ntotal 1 2 2 0 0 0\nok\n",
+    ),
+    (
+        b"session 1024 0 0\ncap\ncap\ncap\nsend 1\nsend 1\ncap\nsend 1\nvideo 1 2\nvideo 1 1\n",
+        b"sent 1 1 2 3 0\nsent 1 2 2 4 0\nask 1 1 1\nhand 1 2 2 0\n\ntotal 1 2 1 1 0 0\nok\n",
+    ),
+    (
+        b"session 1024 0 0\ncap\nsend 1\ncap\nsend 1\ncap\nsend 1\nvideo 1 3\nvideo 1 1\nvideo 1 2\nvideo 1 3\n",
+        b"sent 1 1 2 1 0\nsent 1 2 2 2 0\nsent 1 3 2 3 0\nask 1 1 2\nhand 1 3 2 3\nDEF\ntotal 1 3 1 1 0 0\nok\n",
+    ),
+    (
+        b"session 1024 0 0\ncap\nsend 1\ncap\nsend 1\ncap\nsend 1\ncap\nsend 1\ncap\nsend 1\nvideo 1 2\nvideo 1 4\nvideo 1 5\n",
+        b"sent 1 1 2 1 0\nsent 1 2 2 2 0\nsent 1 3 2 3 0\nsent 1 4 2 4 0\nsent 1 5 2 5 0\nask 1 1 1\nhand 1 2 2 2\nBC\nask 1 3 3\nhand 1 4 2 0\n\nhand 1 5 2 2\n\n\n\ntotal 1 5 3 2 0 0\nok\n",
+    ),
+    (
+        b"session 1024 0 0\ncap\nsend 1\ncap\nsend 1\ncap\nsend 1\ncap\nsend 1\ncap\nsend 1\nvideo 1 5\n",
+        b"sent 1 1 2 1 0\nsent 1 2 2 2 0\nsent 1 3 2 3 0\nsent 1 4 2 4 0\nsent 1 5 2 5 0\nask 1 1 4\nhand 1 5 2 2\n\n\n\ntotal 1 5 1 1 0 0\nok\n",
+    ),
+    (
+        b"session 1024 0 0\ncap\nsend 1\ncap\nsend 1\ncap\nsend 1\ncap\nsend 1\ncap\nsend 1\nvideo 1 1\nvideo 1 3\nvideo 1 2\nvideo 1 3\nvideo 1 1\nvideo 1 5\nvideo 1 4\n",
+        b"sent 1 1 2 1 0\nsent 1 2 2 2 0\nsent 1 3 2 3 0\nsent 1 4 2 4 0\nsent 1 5 2 5 0\nhand 1 1 2 1\nA\nask 1 2 2\nhand 1 3 2 3\nDEF\nask 1 4 4\nhand 1 5 2 2\n\n\n\ntotal 1 5 3 2 0 0\nok\n",
+    ),
+    (
+        b"session 1024 0 0\ncap\nsend 1\ncap\nsend 1\nvideo 1 1\nvideo 1 2\ncap\ncap\nsend 1\nvideo 1 3\n",
+        b"sent 1 1 2 1 0\nsent 1 2 2 2 0\nhand 1 1 2 1\nA\nhand 1 2 2 2\nBC\nsent 1 3 2 4 0\nhand 1 3 2 0\n\ntotal 1 3 3 0 0 0\nok\n",
+    ),
+];
+
 fn words(alloc: Global, texts: &[&str]) -> Result<Vec<String>, Fail> {
     let mut words = Vec::new(alloc);
     for text in texts {
@@ -42,60 +96,8 @@ fn run(
 
 #[test]
 fn writes_a_line_for_each_event(rt: HostRuntime) -> Result<(), Fail> {
-    let rows: [(&[u8], &[u8]); 14] = [
-        (b"", b"ok\n"),
-        (b"session 1440 0 0", b"total 1 0 0 0 0 0\nok\n"),
-        (
-            b"session 1024 0 0\nsend 1\ncap\ncap\n",
-            b"total 1 0 0 0 0 0\nok\n",
-        ),
-        (
-            b"session 1024 0 0\ncap\nsend 1\nsend 1\n",
-            b"sent 1 1 2 1 0\ntotal 1 1 0 0 0 0\nok\n",
-        ),
-        (
-            b"session 1024 0 0\ncap\nsend 1\ncap\nsend 1\n",
-            b"sent 1 1 2 1 0\nsent 1 2 2 2 0\ntotal 1 2 0 0 0 0\nok\n",
-        ),
-        (
-            b"session 1024 0 0\ncap\nsend 1\nvideo 1 1\nvideo 1 1\nvideo 1 1\n",
-            b"sent 1 1 2 1 0\nhand 1 1 2 1\nA\ntotal 1 1 1 0 0 0\nok\n",
-        ),
-        (
-            b"session 1024 0 0\ncap\nsend 1\nvideo 1 1\nsend 1\nvideo 1 1\n",
-            b"sent 1 1 2 1 0\nhand 1 1 2 1\nA\ntotal 1 1 1 0 0 0\nok\n",
-        ),
-        (
-            b"session 1024 0 0\ncap\nsend 1\nvideo 1 1\ncap\nsend 1\nvideo 1 2\n",
-            b"sent 1 1 2 1 0\nhand 1 1 2 1\nA\nsent 1 2 2 2 0\nhand 1 2 2 2\nBC\ntotal 1 2 2 0 0 0\nok\n",
-        ),
-        (
-            b"session 1024 0 0\ncap\ncap\ncap\nsend 1\nsend 1\ncap\nsend 1\nvideo 1 2\nvideo 1 1\n",
-            b"sent 1 1 2 3 0\nsent 1 2 2 4 0\nask 1 1 1\nhand 1 2 2 0\n\ntotal 1 2 1 1 0 0\nok\n",
-        ),
-        (
-            b"session 1024 0 0\ncap\nsend 1\ncap\nsend 1\ncap\nsend 1\nvideo 1 3\nvideo 1 1\nvideo 1 2\nvideo 1 3\n",
-            b"sent 1 1 2 1 0\nsent 1 2 2 2 0\nsent 1 3 2 3 0\nask 1 1 2\nhand 1 3 2 3\nDEF\ntotal 1 3 1 1 0 0\nok\n",
-        ),
-        (
-            b"session 1024 0 0\ncap\nsend 1\ncap\nsend 1\ncap\nsend 1\ncap\nsend 1\ncap\nsend 1\nvideo 1 2\nvideo 1 4\nvideo 1 5\n",
-            b"sent 1 1 2 1 0\nsent 1 2 2 2 0\nsent 1 3 2 3 0\nsent 1 4 2 4 0\nsent 1 5 2 5 0\nask 1 1 1\nhand 1 2 2 2\nBC\nask 1 3 3\nhand 1 4 2 0\n\nhand 1 5 2 2\n\n\n\ntotal 1 5 3 2 0 0\nok\n",
-        ),
-        (
-            b"session 1024 0 0\ncap\nsend 1\ncap\nsend 1\ncap\nsend 1\ncap\nsend 1\ncap\nsend 1\nvideo 1 5\n",
-            b"sent 1 1 2 1 0\nsent 1 2 2 2 0\nsent 1 3 2 3 0\nsent 1 4 2 4 0\nsent 1 5 2 5 0\nask 1 1 4\nhand 1 5 2 2\n\n\n\ntotal 1 5 1 1 0 0\nok\n",
-        ),
-        (
-            b"session 1024 0 0\ncap\nsend 1\ncap\nsend 1\ncap\nsend 1\ncap\nsend 1\ncap\nsend 1\nvideo 1 1\nvideo 1 3\nvideo 1 2\nvideo 1 3\nvideo 1 1\nvideo 1 5\nvideo 1 4\n",
-            b"sent 1 1 2 1 0\nsent 1 2 2 2 0\nsent 1 3 2 3 0\nsent 1 4 2 4 0\nsent 1 5 2 5 0\nhand 1 1 2 1\nA\nask 1 2 2\nhand 1 3 2 3\nDEF\nask 1 4 4\nhand 1 5 2 2\n\n\n\ntotal 1 5 3 2 0 0\nok\n",
-        ),
-        (
-            b"session 1024 0 0\ncap\nsend 1\ncap\nsend 1\nvideo 1 1\nvideo 1 2\ncap\ncap\nsend 1\nvideo 1 3\n",
-            b"sent 1 1 2 1 0\nsent 1 2 2 2 0\nhand 1 1 2 1\nA\nhand 1 2 2 2\nBC\nsent 1 3 2 4 0\nhand 1 3 2 0\n\ntotal 1 3 3 0 0 0\nok\n",
-        ),
-    ];
     let alloc = rt.alloc();
-    for (schedule, text) in rows {
+    for (schedule, text) in ROWS {
         let (status, written) = run(alloc, (FIVE, &[]), (schedule, &[]), &[])?;
         assert_eq!(rt; status, TrialStatus::Ok);
         assert_eq!(rt; written.as_slice(), text);
