@@ -3,7 +3,7 @@ use Rattle.std.proofs.Common.{◌≡◌, ℕ, ◌+◌, ◌-◌, ◌^◌, ◌<◌
 use Rattle.std.proofs.lemmas.List.{append-nil, drop-drop, take_all}
 use Rattle.std.proofs.Math.ListN.{drop_of_length-le}
 use borrow.Rule.Slice.PartMut.{put_mid}
-use Rattle.byteorder.specs.Numbers.{big_from-cons, big_number-reads_back, length-bytes_high_first, length-bytes_low_first, little_from-cons, little_number-reads_back}
+use Rattle.byteorder.specs.Numbers.{big_from-cons, big_number-reads_back, little_from-cons, little_number-reads_back}
 use Rattle.gs_bytes.specs.Field.{be_bytes, be_value, le_bytes, le_value, ReadsBack}
 
 -- the first bytes behind a place become the field, and the others stay
@@ -26,14 +26,6 @@ be_value-append n (a ∷ front) xs = big_from-cons (length front) n a (front ++ 
 pub le_value-append : (n : ℕ) (front xs : List ℕ) → le_value n (length front) (front ++ xs) ≡ le_value n 0 xs
 le_value-append n [] xs = refl
 le_value-append n (a ∷ front) xs = little_from-cons (length front) n a (front ++ xs) ∙ le_value-append n front xs
-
--- there are n bytes
-pub length-be_bytes : (n x : ℕ) → length (be_bytes n x) ≡ n
-length-be_bytes n x = length-bytes_high_first n x
-
--- there are n bytes
-pub length-le_bytes : (n x : ℕ) → length (le_bytes n x) ≡ n
-length-le_bytes n x = length-bytes_low_first 0 n x
 
 -- what stands in a field is read from its place
 pub be_value-be_bytes : (n x : ℕ) (front rest : List ℕ) → x < 256 ^ n → be_value n (length front) (front ++ be_bytes n x ++ rest) ≡ x

@@ -6,8 +6,8 @@ use crate::OutOfMemory;
 use std::alloc::Global;
 use std::marker::Model;
 
-/// The calls that are to fail, the calls made and the faults counted. Both counts stand still at
-/// their type's end.
+/// What decides for an object in memory which of its calls fail: the calls that are to fail, the
+/// calls made and the faults counted. Both counts stand still at their type's end.
 #[derive(Drop)]
 pub struct CallPlan {
     fails: Vec<u64>,

@@ -7,7 +7,8 @@
 //! - A `Source` gives its bytes in order and a `Sink` takes them in order. Each counts its faults:
 //!   a call that answers `Failed::Fault` and a write that takes nothing raise the count, which
 //!   stands still at `u64::MAX`, and every other call that succeeds leaves it. An object may tell
-//!   its contents to contracts, as those in memory do, or not, as a real file.
+//!   its contents to contracts, as those in memory do, or not, as a real file. `CallPlan` decides
+//!   which calls of an object in memory fail.
 //! - `write_all` and `read_up_to` are whole transfers over these traits: what they moved is exact
 //!   where it is told, and they answer a fault only where the object counted one.
 #![tactic(auto)]
@@ -31,6 +32,7 @@ mod written;
 pub use big_endian::{
     read_u16_be, read_u32_be, read_u64_be, write_u16_be, write_u32_be, write_u64_be,
 };
+pub use calls::CallPlan;
 pub use failed::Failed;
 pub use field::field_reads_back;
 pub use little_endian::{

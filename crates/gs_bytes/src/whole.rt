@@ -10,8 +10,6 @@ use std::alloc::Global;
 /// How many bytes one read asks for at most.
 const CHUNK: usize = 4096;
 
-/// How many bytes one read asks for.
-
 /// Writes all of the bytes, in as many writes as it takes. Where one fails or takes nothing, a
 /// part of the bytes was written.
 pub fn write_all<K: Sink>(out: &mut K, bytes: &[u8]) -> Result<(), Failed>

@@ -1,21 +1,18 @@
 //! An input sink in memory, whose calls fail as planned.
 
-ghost use Rattle.std.specs.Prelude.{◌≡◌, ◌≤◌, IfOk};
+ghost use Rattle.std.specs.Prelude.{◌≡◌, IfOk};
 
 use crate::event::Event;
 use crate::sink::{Input, InputSink};
-use gs_bytes::{Failed, OutOfMemory, Outside};
+use gs_bytes::{CallPlan, Failed, OutOfMemory, Outside};
 use std::alloc::Global;
 use std::marker::Model;
 
-/// An input sink in memory that tells what was put. Its counts of calls and of faults stand still
-/// at their type's end.
+/// An input sink in memory that tells what was put.
 #[derive(Drop)]
 pub struct MemInput {
     inputs: Vec<Input>,
-    fails: Vec<u64>,
-    made: u64,
-    faults: u64,
+    plan: CallPlan,
 }
 
 impl Model for MemInput {
@@ -23,11 +20,10 @@ impl Model for MemInput {
 
     ghost Value = { FailingInput };
 
-    ghost view = { λ sink. record { inputs = sink.inputs.items; calls = record { fails = sink.fails.items; made = sink.made; faults = sink.faults } } };
+    ghost view = { λ sink. record { inputs = sink.inputs.items; calls = sink.plan } };
 }
 
 impl MemInput {
-    ghost use Rattle.gs_bytes.specs.Memory.{after_call, next_fails};
     ghost use Rattle.gs_input.specs.Sink.{no_inputs};
 
     /// Nothing was put yet. The calls of the numbers in `fails`, from 1, fail.
@@ -36,9 +32,7 @@ impl MemInput {
     {
         Ok(MemInput {
             inputs: Vec::new(alloc),
-            fails: Vec::from_slice(alloc, fails)?,
-            made: 0,
-            faults: 0,
+            plan: CallPlan::new(alloc, fails)?,
         })
     }
 
@@ -53,22 +47,7 @@ impl MemInput {
     pub fn faults(&self) -> u64
         ensures { result ≡ self.now.calls.faults }
     {
-        self.faults
-    }
-
-    /// Counts the next call, and answers whether it fails, which is counted too.
-    fn begin(&mut self) -> bool
-        ensures fails { result ≡ next_fails self.old.calls }
-        ensures calls { self.new.calls ≡ after_call self.old.calls }
-        ensures inputs { self.new.inputs ≡ self.old.inputs }
-        ensures never_falls { self.old.calls.faults ≤ self.new.calls.faults }
-    {
-        self.made = self.made.saturating_add(1);
-        let fails = self.fails.contains(&self.made);
-        if fails {
-            self.faults = self.faults.saturating_add(1);
-        }
-        fails
+        self.plan.faults()
     }
 }
 
@@ -92,7 +71,7 @@ impl InputSink for MemInput {
         ensures fault { IsErrOf result Failed.Fault ↔ IsTrue (next_fails self.old.calls) }
         ensures calls { self.new.calls ≡ after_call self.old.calls }
     {
-        if self.begin() {
+        if self.plan.begin() {
             return Err(Failed::Fault);
         }
         self.inputs.push(Input {
