@@ -1,5 +1,5 @@
 -- Which bytes have a fault at which place.
-use Rattle.std.proofs.Common.{cond, ltb, eqb, eq-eqb, le-leb, ◌≡◌, ℕ, ◌/◌, ◌%◌, ◌<◌, ◌≤◌, Bool, true, false, List, ◌++◌, length, drop, refl, sym, ap, subst, arith}
+use Rattle.std.proofs.Common.{cond, ltb, eqb, le-leb, ◌≡◌, ℕ, ◌/◌, ◌%◌, ◌<◌, ◌≤◌, Bool, true, false, List, ◌++◌, length, drop, refl, sym, ap, subst, arith}
 use Rattle.std.specs.Prelude.{is_some, ◌||◌}
 use Rattle.std.proofs.lemmas.Bool.{lt-ltb, le-ltb, ne_eqb}
 use Rattle.gs_bytes.specs.Field.{be_value}
@@ -10,11 +10,6 @@ use Rattle.gs_enet_wire.proofs.Datagrams.{headed}
 or_true : (b : Bool) → (b || true) ≡ true
 or_true true = refl
 or_true false = refl
-
-pub fault_long : (bytes : List ℕ) → most_bytes < length bytes → IsFaultAt bytes most_bytes
-fault_long bytes long =
-    let first : ltb most_bytes (length bytes) ≡ true = lt-ltb _ _ long in
-    rw first refl
 
 pub fault_compressed : (bytes : List ℕ) → length bytes ≤ most_bytes → be_value 2 0 bytes / 16384 % 2 ≡ 1 → IsFaultAt bytes 0
 fault_compressed bytes short bit =
@@ -33,16 +28,6 @@ fault_time bytes short enough cut bit timed =
     let len : header_length bytes ≡ 4 = ap (λ (b : Bool). cond b 4 2) has_time in
     let third : ltb (length bytes) (header_length bytes) ≡ true = rw len (lt-ltb _ _ cut) in
     rw (first, second, third) refl
-
--- a whole header and nothing behind it
-pub fault_empty : (bytes body : List ℕ) (d : Datagram) → length bytes ≤ most_bytes → HasHeader d → bytes ≡ fields_bytes (header d) ++ body → length body ≡ 0 → IsFaultAt bytes (length bytes)
-fault_empty bytes body d short has_header spelled none =
-    let h = headed bytes body d has_header spelled in
-    let first : ltb most_bytes (length bytes) ≡ false = le-ltb _ _ short in
-    let second : (ltb (length bytes) 2 || is_compressed bytes) ≡ false = h.whole in
-    let third : ltb (length bytes) (header_length bytes) ≡ false = h.time in
-    let fourth : eqb (length bytes) (header_length bytes) ≡ true = eq-eqb _ _ (omega arith) in
-    rw (first, second, third, fourth) refl
 
 -- a whole header, and commands up to the place
 pub fault_stops : (bytes body : List ℕ) (d : Datagram) (place : ℕ) → length bytes ≤ most_bytes → HasHeader d → bytes ≡ fields_bytes (header d) ++ body → 0 < length body

@@ -1,5 +1,5 @@
 -- Fields one after the other: their bytes say which numbers they hold, and where they end.
-use Rattle.std.proofs.Common.{◌≡◌, ℕ, ◌+◌, ◌^◌, ◌<◌, List, [], ◌∷◌, ◌++◌, length, drop, map, refl, sym, ap, ◌∙◌, append_assoc, arith, length-append}
+use Rattle.std.proofs.Common.{◌≡◌, ℕ, ◌^◌, ◌<◌, List, [], ◌∷◌, ◌++◌, length, drop, map, refl, sym, ap, ◌∙◌, append_assoc}
 use Rattle.std.proofs.lemmas.List.{drop_at}
 use Rattle.byteorder.specs.Endian.{big_from}
 use Rattle.byteorder.specs.Numbers.{big_number-reads_back, length-bytes_high_first}
@@ -17,17 +17,8 @@ widths fs = map width fs
 abbrev pub values : List Field → List ℕ
 values fs = map value fs
 
-abbrev pub total : List ℕ → ℕ
-total [] = 0
-total (n ∷ ns) = n + total ns
-
 pub length-field_bytes : (f : Field) → length (field_bytes f) ≡ f.0
 length-field_bytes f = length-bytes_high_first f.0 f.1
-
-pub length-fields_bytes : (fs : List Field) → length (fields_bytes fs) ≡ total (widths fs)
-length-fields_bytes [] = refl
-length-fields_bytes (f ∷ fs) =
-    omega (arith, length-append (field_bytes f) (fields_bytes fs), length-field_bytes f, length-fields_bytes fs)
 
 abbrev field_of : ℕ → ℕ → Field
 field_of w n = (w, n)

@@ -7,7 +7,6 @@ use Rattle.std.proofs.lemmas.Nat.Bits.{and_pow}
 use Rattle.byteorder.specs.Numbers.{big_number-reads_back}
 use Rattle.gs_bytes.specs.Field.{be_value}
 use Rattle.gs_enet_wire.specs.declared.command.Command.{Command}
-use Rattle.gs_enet_wire.specs.declared.read_header.Header.{Header}
 use Rattle.gs_enet_wire.specs.Grammar.{u16, field_bytes, asking, IsCommand, AreCommands, BeginsNoCommand, StopsAt}
 use Rattle.gs_enet_wire.specs.Reading.{Takes, TakesCommand}
 use Rattle.gs_enet_wire.specs.ReadingHeader.{TakesTime, TakesHeader, TakesCommands}
@@ -18,9 +17,6 @@ word_taken word old new t = ap (be_value 2 0) t.parts ∙ big_number-reads_back 
 
 pub compressed_bit : (word : ℕ) → bit_and word 16384 ≡ word / 16384 % 2 * 16384
 compressed_bit word = and_pow word 14
-
-header_of : ℕ → ℕ → Option ℕ → Header
-header_of peer session sent = record { peer = peer; session = session; sent = sent }
 
 pub takes_header : (word : ℕ) (sent : Option ℕ) (old mid new : List ℕ) → Takes (u16 word ∷ []) old mid → bit_and word 16384 ≡ 0 → TakesTime word sent mid new
     → TakesHeader (record { peer = bit_and word 4095; session = bit_and (word / 4096) 3; sent = sent }) old new
@@ -37,9 +33,6 @@ takes_header word sent old mid new t plain time =
       has_header = record { peer = omega arith; session = omega arith; sent = time.fit };
       parts = first ∙ ap (λ (l : List ℕ). field_bytes (u16 (bit_and word 4095 + 4096 * bit_and (word / 4096) 3 + 32768 * asking (is_some sent))) ++ l) time.parts;
     }
-
-pub takes_none : (t : Bool) (old : List ℕ) → TakesCommands t [] old old
-takes_none t old = record { front = []; parts = refl; are_commands = refl }
 
 pub commands_push : (t : Bool) (a b : List ℕ) (cs : List Command) (c : Command) → AreCommands t a cs → IsCommand t b c → AreCommands t (a ++ b) (cs ++ c ∷ [])
 commands_push t a b [] c p q =

@@ -3,7 +3,7 @@ use Rattle.std.proofs.Common.{◌≡◌, ℕ, ◌/◌, ◌%◌, Bool, true, fals
 use Rattle.std.proofs.lemmas.List.{take_at, drop_at}
 use Rattle.gs_enet_wire.specs.declared.command.Command.{Command}
 use Rattle.gs_enet_wire.specs.declared.head.Head.{Head}
-use Rattle.gs_enet_wire.specs.Grammar.{head_of, head, kind, fields, payload, all_fields, after_first, asking, IsCommand, fields_bytes, Fit}
+use Rattle.gs_enet_wire.specs.Grammar.{head_of, head, kind, fields, payload, all_fields, after_first, asking, IsCommand, fields_bytes}
 use Rattle.gs_enet_wire.proofs.FieldLemmas.{widths, values, fields_same}
 use Rattle.gs_enet_wire.proofs.Table.{widths_of, data_length, widths-fields, length-payload, same_from_parts}
 
@@ -23,21 +23,6 @@ fronts_same a b x y len e = (
   sym (take_at a x (length a) refl) ∙ ap (take (length a)) e ∙ take_at b y (length a) (sym len),
   sym (drop_at a x (length a) refl) ∙ ap (drop (length a)) e ∙ drop_at b y (length a) (sym len),
 )
-
--- two commands of one kind whose fields and data begin one text
-pub bodies_same : (c d : Command) (x y : List ℕ) → kind c ≡ kind d → Fit (fields c) → Fit (fields d)
-    → (fields_bytes (fields c) ++ payload c) ++ x ≡ (fields_bytes (fields d) ++ payload d) ++ y
-    → (values (fields c) ≡ values (fields d)) × (payload c ≡ payload d) × (x ≡ y)
-bodies_same c d x y k fit fit' e =
-    let wide : widths (fields c) ≡ widths (fields d) = widths-fields c ∙ ap widths_of k ∙ sym (widths-fields d) in
-    let regrouped : fields_bytes (fields c) ++ (payload c ++ x) ≡ fields_bytes (fields d) ++ (payload d ++ y) =
-    sym (append_assoc (fields_bytes (fields c)) (payload c) x) ∙ e ∙ append_assoc (fields_bytes (fields d)) (payload d) y in
-    let both = fields_same (fields c) (fields d) (payload c ++ x) (payload d ++ y) wide fit fit' regrouped in
-    let numbers : values (fields c) ≡ values (fields d) = ap values both.0 in
-    let len : length (payload c) ≡ length (payload d) =
-    length-payload c ∙ ap (λ (n : ℕ). data_length n (values (fields c))) k ∙ ap (data_length (kind d)) numbers ∙ sym (length-payload d) in
-    let both_data = fronts_same (payload c) (payload d) x y len both.1 in
-    (numbers, both_data.0, both_data.1)
 
 -- the commands that begin one text are the same, and so is what is behind them
 pub command_same : (t : Bool) (a b : List ℕ) (c d : Command) (x y : List ℕ) → IsCommand t a c → IsCommand t b d → a ++ x ≡ b ++ y → (c ≡ d) × (x ≡ y)

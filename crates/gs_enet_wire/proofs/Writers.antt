@@ -22,9 +22,6 @@ puts_then {x} {y} {p} {q} {r} {a} {b} {c} h k =
       rest = k.rest ∙ skip b ∙ ap (drop (length y)) h.rest ∙ sym (skip a);
     }
 
-pub puts_none : (p : ℕ) (a : List ℕ) → Puts [] p p a a
-puts_none p a = record { ends = omega arith; front = sym (append-nil (take p a)); rest = refl }
-
 fields_bytes-append : (fs gs : List Field) → fields_bytes (fs ++ gs) ≡ fields_bytes fs ++ fields_bytes gs
 fields_bytes-append [] gs = refl
 fields_bytes-append (f ∷ fs) gs =

@@ -1,12 +1,12 @@
 -- A line is its words joined, and its words are those that were joined.
-use Rattle.std.proofs.Common.{◌≡◌, ◌↔◌, ℕ, suc, ◌^◌, ◌<◌, Bool, false, eqb, List, [], ◌∷◌, length, All, Option, Some, None, ℤ, pos, negsuc, FitsSigned, w16, rules, refl, sym, ap, subst, ◌∙◌, arith}
+use Rattle.std.proofs.Common.{◌≡◌, ◌↔◌, ℕ, suc, ◌^◌, ◌<◌, Bool, false, eqb, List, [], ◌∷◌, All, Option, Some, None, ℤ, pos, negsuc, FitsSigned, w16, rules, refl, sym, ap, subst, ◌∙◌, arith}
 use Rattle.std.specs.Prelude.{codes, IfSome, IfNone}
 use Rattle.std.specs.List.{AllByRecursion}
 use Rattle.std.specs.Fmt.{decimal, signed_decimal}
 use Rattle.std.specs.Str.Parse.{AllDigits}
 use Rattle.std.proofs.lemmas.Bool.Decides.{nat_tests}
 use Rattle.std.proofs.lemmas.List.Elements.{All-from_recursion}
-use Rattle.std.proofs.lemmas.List.Splits.{slice_split_at, slice_split_none, length-slice_split, join_with_byte-slice_split}
+use Rattle.std.proofs.lemmas.List.Splits.{slice_split_at, slice_split_none, join_with_byte-slice_split}
 use Rattle.std.proofs.lemmas.Fmt.{decimal_is_IsNumeral, decimal_injective, signed_decimal_injective}
 use Rattle.std.proofs.lemmas.Str.Parse.{digit_from_value}
 use Rattle.gs_input.specs.declared.event.Event.{Event}
@@ -171,7 +171,3 @@ reads_line line name words (Some found) e some none event =
     let is = words_are_line line name words found e some in
     (λ same. let one : found ≡ event = cc in subst (IsLine line) one is, λ h. ap (λ (x : Event). Some x) (one_event line found event is h))
 reads_line line name words None e some none event = (λ same. absurd cc, λ h. absurd (none event (line_is_words line name words event e h)))
-
--- a line has a word
-pub line_has_word : (line : List ℕ) → words_of line ≡ [] → ⊥
-line_has_word line e = let n = length-slice_split is_space line in absurd (omega (arith, ap (λ (ws : List (List ℕ)). length ws) e))

@@ -1,5 +1,5 @@
 -- What a reader returned, once it is known which answer it is and that this answer is right.
-use Rattle.std.proofs.Common.{◌≡◌, ℕ, ◌≤◌, Bool, List, length, Some, None, Result, Ok, Err, ap, subst, ◌∙◌}
+use Rattle.std.proofs.Common.{◌≡◌, ℕ, ◌≤◌, Bool, List, length, Result, Ok, Err, subst}
 use Rattle.gs_rtsp_text.specs.declared.header.Header.{Header}
 use Rattle.gs_rtsp_text.specs.declared.stop.Stop.{Stop}
 use Rattle.gs_rtsp_text.specs.declared.stop.Stop.TheVariants.{More as stop_more, Bad}
@@ -9,8 +9,8 @@ use Rattle.gs_rtsp_text.specs.declared.message.Read.{Read}
 use Rattle.gs_rtsp_text.specs.declared.message.Read.TheVariants as reads
 use Rattle.gs_rtsp_text.specs.declared.message.TextError.{TextError}
 use Rattle.gs_rtsp_text.specs.declared.message.TextError.TheVariants as errors
-use Rattle.gs_rtsp_text.specs.Message.{Message, Answer, BadText, More, Answers, IfWhole, IsAnswer, IsWhole, IsBadPlace, IsOpen}
-use Rattle.gs_rtsp_text.specs.Reading.{Fails, Gives, ReadsWithin, GivesPlace, head_by, answer_by, stop_place, place_answer}
+use Rattle.gs_rtsp_text.specs.Message.{Message, Answer, Answers, IfWhole, IsAnswer, IsWhole, IsBadPlace, IsOpen}
+use Rattle.gs_rtsp_text.specs.Reading.{Gives, ReadsWithin, head_by}
 use Rattle.gs_rtsp_text.specs.Laws.{HasOneAnswer}
 use Rattle.gs_rtsp_text.proofs.Parts.{IsCode, Meets}
 use Rattle.gs_rtsp_text.proofs.Decided.{read_rest_within, read_left_within}
@@ -43,20 +43,3 @@ module _ {X S : Type 0} (IsFirstLine : List ℕ → S → Type 0) (may_have : �
   within_from view rest s (Err read_errors.OutOfMemory) is g = tt
   within_from view rest s (Err (read_errors.Stop stop_more)) is g = tt
   within_from view rest s (Err (read_errors.Stop (Bad left))) is g = read_left_within IsFirstLine may_have code first meets s left g
-
--- the answer by an error
-pub more_at_none : {S : Type 0} (bytes : List ℕ) (error : ReadError) (read : Result ((S × (List Header × ℕ)) × List ℕ) Stop) → Fails error read → GivesPlace bytes error (Ok None) → answer_by bytes read ≡ More
-more_at_none bytes read_errors.OutOfMemory read f g = absurd cc
-more_at_none bytes (read_errors.Stop stop) read f g =
-    let none : stop_place bytes stop ≡ None = cc in
-    ap (answer_by bytes) f ∙ ap place_answer none
-
-pub bad_at_some : {S : Type 0} (bytes : List ℕ) (error : ReadError) (read : Result ((S × (List Header × ℕ)) × List ℕ) Stop) (place : ℕ) → Fails error read → GivesPlace bytes error (Ok (Some place)) → answer_by bytes read ≡ BadText place
-bad_at_some bytes read_errors.OutOfMemory read place f g = absurd cc
-bad_at_some bytes (read_errors.Stop stop) read place f g =
-    let some : stop_place bytes stop ≡ Some place = cc in
-    ap (answer_by bytes) f ∙ ap place_answer some
-
-pub no_memory_at_err : (bytes : List ℕ) (error : ReadError) (e : TextError) → GivesPlace bytes error (Err e) → e ≡ errors.OutOfMemory
-no_memory_at_err bytes read_errors.OutOfMemory e g = cc
-no_memory_at_err bytes (read_errors.Stop stop) e g = absurd cc

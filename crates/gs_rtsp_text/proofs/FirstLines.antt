@@ -97,9 +97,6 @@ method_meets (b ∷ s) = method_choose b s (eqb b 79) refl (eqb b 68) refl (eqb 
 
 -- ---- request lines
 
-version : List ℕ
-version = codes "RTSP/1.0" ++ crlf
-
 abbrev Target : Method → List ℕ → Method × List ℕ → Type 0
 Target m = Then (Token is_target_byte 32 false) (λ t. Exactly (codes "RTSP/1.0" ++ crlf) (m, t))
 

@@ -2,7 +2,7 @@
 use Rattle.std.proofs.Common.{◌≡◌, ℕ, ◌+◌, ◌-◌, ◌<◌, ◌≤◌, Bool, true, false, cond, eqb, List, [], ◌∷◌, ◌++◌, length, take, drop, get_or, Option, Some, None, refl, sym, ap, ◌∙◌, append_assoc, arith, drop-cons, add-one}
 use Rattle.std.proofs.lemmas.List.{append-nil, length-drop, get_or-drop, take_more, drop_all}
 use Rattle.std.proofs.lemmas.Bool.Decides.{nat_tests}
-use Rattle.gs_sdp.specs.Lines.{with_byte, lines_of, value_in, later, last_among, last_value}
+use Rattle.gs_sdp.specs.Lines.{with_byte, lines_of, value_in, later, last_among}
 
 -- the first of some lines, with bytes in front
 abbrev pub with_front : List ℕ → List (List ℕ) → List (List ℕ)
@@ -67,13 +67,3 @@ later_later a b (Some value) = refl
 
 pub found_more : (name line : List ℕ) (lines : List (List ℕ)) (found : Option (List ℕ)) (all : Option (List ℕ)) (rest : List (List ℕ)) → rest ≡ line ∷ lines → later found (last_among name rest) ≡ all → later (later found (value_in name line)) (last_among name lines) ≡ all
 found_more name line lines found all rest e h = sym (later_later found (value_in name line) (last_among name lines)) ∙ ap (λ (ls : List (List ℕ)). later found (last_among name ls)) (sym e) ∙ h
-
-pub found_all : (name : List ℕ) (found : Option (List ℕ)) (all : Option (List ℕ)) (rest : List (List ℕ)) → rest ≡ [] → later found (last_among name rest) ≡ all → found ≡ all
-found_all name found all rest e h = sym (ap (λ (ls : List (List ℕ)). later found (last_among name ls)) e) ∙ h
-
-later_none : (o : Option (List ℕ)) → later None o ≡ o
-later_none None = refl
-later_none (Some value) = refl
-
-pub found_none : (name body : List ℕ) → later None (last_value name body) ≡ last_value name body
-found_none name body = later_none (last_value name body)
