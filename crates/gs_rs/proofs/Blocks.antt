@@ -1,9 +1,9 @@
 -- Shards laid end to end, and their columns.
-use Rattle.std.proofs.Common.{◌≡◌, ℕ, ◌+◌, ◌-◌, ◌*◌, ◌/◌, ◌%◌, ◌<◌, ◌≤◌, List, length, get_or, map, drop, ◌++◌, sym, ap, ◌∙◌, subst, arith, inl, inr}
+use Rattle.std.proofs.Common.{◌≡◌, ℕ, ◌+◌, ◌-◌, ◌*◌, ◌/◌, ◌%◌, ◌<◌, ◌≤◌, List, length, get_or, map, drop, ◌++◌, ◌↔◌, sym, ap, ◌∙◌, subst, arith, inl, inr}
 use Rattle.std.specs.List.{All, range_with_len}
 use Rattle.std.proofs.lemmas.Bool.{cases_lt}
 use Rattle.std.proofs.lemmas.Nat.{row_fits, div-mul-add, mod-mul-add, div_below, mod_below, div-add-mod'}
-use Rattle.std.proofs.lemmas.List.{get_or-take, get_or-drop, length-take-le, length-drop, length-append, get_or_append_left, get_or-append_right, ext_get_or}
+use Rattle.std.proofs.lemmas.List.{get_or_default, get_or-take, get_or-drop, length-take-le, length-drop, length-append, get_or_append_left, get_or-append_right, ext_get_or}
 use Rattle.std.proofs.lemmas.List.Elements.{All-append}
 use Rattle.std.proofs.lemmas.List.FromFn.{length-map-range_with_len, get_or-map-range_with_len}
 use Rattle.gs_gf256.specs.Field.{IsByte, product, field_sum}
@@ -11,7 +11,7 @@ use Rattle.gs_gf256.proofs.FieldSums.{field_sum-same}
 use Rattle.gs_rs.specs.declared.shape.Shape.{Shape}
 use Rattle.gs_rs.specs.Shape.{IsCode, shard_count, coefficient}
 use Rattle.gs_rs.specs.Codeword.{IsCodeword, HasParityRows, IsBlock, column, shard_of}
-use Rattle.gs_rs.specs.Laws.{EnoughShardsDetermineBlock, EnoughShardsHaveBlock, DataAloneIsBlock}
+use Rattle.gs_rs.specs.Laws.{EnoughShardsDetermineBlock, EnoughShardsHaveBlock, DataAloneIsBlock, DataAloneHasCodewords}
 use Rattle.gs_rs.proofs.Codewords.{same_words, word_through}
 use Rattle.gs_rs.proofs.Rows.{point_form_is_row_form, byte_or_zero}
 
@@ -72,12 +72,60 @@ same_shard n len a b i size_a size_b h same =
 pub bytes_of_same_shard : (len : ℕ) (a b : List ℕ) (i k : ℕ) → shard_of len a i ≡ shard_of len b i → k < len → byte_at len a k i ≡ byte_at len b k i
 bytes_of_same_shard len a b i k e h = sym (shard_at len a i k 0 h) ∙ ap (λ s. get_or s k 0) e ∙ shard_at len b i k 0 h
 
+-- every column of the shards is a codeword, also without parity
+pub record HasColumns (code : Shape) (len : ℕ) (shards : List ℕ) : Type 0 where
+  pub size : length shards ≡ shard_count code * len
+  pub columns : (k : ℕ) → k < len → IsCodeword code (column (shard_count code) len shards k)
+
+-- data alone of a code: there are no rows to hold
+pub data_alone_columns : DataAloneHasCodewords
+data_alone_columns code len shards is no_parity size bytes k h =
+    let n = shard_count code in
+    (point_form_is_row_form code (column n len shards k) is).1 (record {
+      counted = column_length n len shards k;
+      are_bytes = column_bytes n len shards k bytes;
+      rows = λ row below. absurd (omega arith);
+    })
+
+-- each byte of the shards is in a column
+bytes_of_columns : (n len : ℕ) (shards : List ℕ) → length shards ≡ n * len
+    → ((k : ℕ) → k < len → All IsByte (column n len shards k)) → All IsByte shards
+bytes_of_columns n len shards size bytes = λ j d h.
+    let at = place n len j (omega arith) in
+    let i = j / len in
+    let k = j % len in
+    let here : get_or (column n len shards k) i 0 ≡ get_or shards j d =
+    column_at n len shards k i 0 at.0 ∙ ap (λ m. get_or shards m 0) at.2 ∙ sym (get_or_default shards j d 0 h) in
+    subst IsByte here (bytes k at.1 i 0 (omega (arith, at.0, column_length n len shards k)))
+
+-- the blocks of a code are the shards whose columns are its codewords
+pub block_is_columns : (code : Shape) (len : ℕ) (shards : List ℕ) → IsCode code → IsBlock code len shards ↔ HasColumns code len shards
+block_is_columns code len shards is = (
+  λ block. record {
+    size = block.size;
+    columns = elim (cases_lt 0 code.parity) [
+      | inl some ↦ block.columns some
+      | inr none ↦
+          let no_parity : code.parity ≡ 0 = omega arith in
+          let count : shard_count code ≡ code.data = omega arith in
+          data_alone_columns code len shards is no_parity (block.size ∙ ap (λ m. m * len) count) block.bytes
+    ];
+  },
+  λ words. record {
+    size = words.size;
+    bytes = bytes_of_columns (shard_count code) len shards words.size (λ k h. (words.columns k h).are_bytes);
+    columns = λ some. words.columns;
+  },
+)
+
 pub enough_determine : EnoughShardsDetermineBlock
 enough_determine code len numbers a b is enough block_a block_b same =
     let n = shard_count code in
+    let words_a = (block_is_columns code len a is).0 block_a in
+    let words_b = (block_is_columns code len b is).0 block_b in
     same_shards n len a b block_a.size block_b.size (λ i k hi hk.
     let columns : column n len a k ≡ column n len b k =
-    same_words code numbers (column n len a k) (column n len b k) is enough (block_a.columns k hk) (block_b.columns k hk) (λ j d h.
+    same_words code numbers (column n len a k) (column n len b k) is enough (words_a.columns k hk) (words_b.columns k hk) (λ j d h.
     let number = get_or numbers j d in
     let within = enough.in_range j d h in
     column_at n len a k number 0 within ∙ bytes_of_same_shard len a b number k (same j d h) hk ∙ sym (column_at n len b k number 0 within)) in
@@ -102,7 +150,7 @@ enough_have code len numbers shards is enough size bytes =
     sym (at i k hi hk) ∙ sym (column_at n len block k i 0 hi)) in
     subst (IsCodeword code) same (word k).1.is_word in (
       block,
-      record { size = block_size; columns = columns },
+      (block_is_columns code len block is).1 (record { size = block_size; columns = columns }),
       λ j d h.
           let number = get_or numbers j d in
           let within = enough.in_range j d h in
@@ -114,18 +162,21 @@ enough_have code len numbers shards is enough size bytes =
 block_from_rows : (code : Shape) (len : ℕ) (block : List ℕ) → IsCode code → length block ≡ shard_count code * len → All IsByte block
     → ((k : ℕ) → k < len → HasParityRows code (column (shard_count code) len block k)) → IsBlock code len block
 block_from_rows code len block is size bytes rows =
-    record { size = size; columns = λ k h. (point_form_is_row_form code (column (shard_count code) len block k) is).1 (rows k h) }
-
-pub data_alone : DataAloneIsBlock
-data_alone code len shards is no_parity size bytes =
-    let n = shard_count code in
-    let count : n ≡ code.data = omega arith in
-    block_from_rows code len shards is (size ∙ ap (λ m. m * len) (sym count)) bytes (λ k h.
     record {
-      counted = column_length n len shards k;
-      are_bytes = column_bytes n len shards k bytes;
-      rows = λ row below. absurd (omega arith);
-    })
+      size = size;
+      bytes = bytes;
+      columns = λ some k h. (point_form_is_row_form code (column (shard_count code) len block k) is).1 (rows k h);
+    }
+
+-- without parity no column has to be a codeword
+pub data_alone : DataAloneIsBlock
+data_alone code len shards no_parity size bytes =
+    let count : shard_count code ≡ code.data = omega arith in
+    record {
+      size = size ∙ ap (λ m. m * len) (sym count);
+      bytes = bytes;
+      columns = λ some. absurd (omega arith);
+    }
 
 -- data shards, and parity shards after them that are the rows' sums
 pub encoded : (code : Shape) (len : ℕ) (source parity : List ℕ) → IsCode code

@@ -19,7 +19,7 @@ use Rattle.gs_rs.proofs.Differences.{IsByte-differences, differences-ne-zero, we
 use Rattle.gs_rs.proofs.Points.{IsByte-point, ArePoints-map, IsByte-denominator, denominator-ne-zero}
 use Rattle.gs_rs.proofs.Codewords.{IsWeight, weighted}
 use Rattle.gs_rs.proofs.Rows.{not_among}
-use Rattle.gs_rs.proofs.Blocks.{byte_at, column_at, bytes_of_same_shard, same_shard}
+use Rattle.gs_rs.proofs.Blocks.{byte_at, column_at, bytes_of_same_shard, same_shard, block_is_columns}
 
 -- a shard is present or it is not
 absent_is_other : (present : List Bool) (a b : ℕ) → IsPresent present a → get_or present b false ≡ false → a ≢ b
@@ -132,6 +132,7 @@ restored_more code len present numbers weights before now after to is enough her
     record {
       restored = λ block is_block same j k below j_gone hk. elim (cases_eq j to) [
         | inl this ↦
+            let words = (block_is_columns code len block is).0 is_block in
             let source : (i : ℕ) → i < d → byte_at len now k (get_or numbers i 0) ≡ get_or (column n len block k) (get_or numbers i 0) 0 = λ i hi.
             let in_i : i < length numbers = omega (arith, enough.count) in
             so_far.others (get_or numbers i 0) k (inl (here i 0 in_i)) hk
@@ -141,7 +142,7 @@ restored_more code len present numbers weights before now after to is enough her
             ∙ written k hk
             ∙ ap (field_sum (λ i. product (get_or weights i 0) (byte_at len now k (get_or numbers i 0)))) enough.count
             ∙ field_sum-same _ _ d (λ i hi. ap (product (get_or weights i 0)) (source i hi))
-            ∙ sym (weighted code numbers (column n len block k) (λ i. get_or weights i 0) to is enough (is_block.columns k hk) (omega arith) are_weights)
+            ∙ sym (weighted code numbers (column n len block k) (λ i. get_or weights i 0) to is enough (words.columns k hk) (omega arith) are_weights)
             ∙ column_at n len block k to 0 (omega arith)
             ∙ ap (byte_at len block k) (sym this)
         | inr other ↦ kept j k other hk ∙ so_far.restored block is_block same j k (omega arith) j_gone hk

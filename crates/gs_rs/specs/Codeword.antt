@@ -27,10 +27,12 @@ pub record HasParityRows (code : Shape) (bytes : List ℕ) : Type 0 where
 abbrev pub column : ℕ → ℕ → List ℕ → ℕ → List ℕ
 column n len shards k = map (λ i. slice_index shards (i * len + k)) (range_with_len 0 n)
 
--- The shards of a block, of one length, laid end to end: the data shards, then the parity shards.
+-- The shards of a block, of one length, laid end to end: the data shards, then the parity shards. Without parity shards
+-- any data is a block.
 pub record IsBlock (code : Shape) (len : ℕ) (block : List ℕ) : Type 0 where
   pub size : length block ≡ shard_count code * len
-  pub columns : (k : ℕ) → k < len → IsCodeword code (column (shard_count code) len block k)
+  pub bytes : All IsByte block
+  pub columns : 0 < code.parity → (k : ℕ) → k < len → IsCodeword code (column (shard_count code) len block k)
 
 -- one shard, by its number, of shards of one length laid end to end
 abbrev pub shard_of : ℕ → List ℕ → ℕ → List ℕ

@@ -3,7 +3,7 @@ use Rattle.std.specs.Prelude.{◌≡◌, ◌≢◌, ℕ, ◌+◌, ◌*◌, ◌<�
 use Rattle.gs_gf256.specs.Field.{IsByte}
 use Rattle.gs_rs.specs.declared.shape.Shape.{Shape}
 use Rattle.gs_rs.specs.Shape.{shard_count, IsCode, video_code, audio_code, point, denominator}
-use Rattle.gs_rs.specs.Codeword.{IsBlock, IsCodeword, HasParityRows, shard_of}
+use Rattle.gs_rs.specs.Codeword.{IsBlock, IsCodeword, HasParityRows, column, shard_of}
 
 -- counts within the limits make a video code, and the audio code is one
 abbrev pub LimitsMakeCodes : Type 0
@@ -40,7 +40,13 @@ EnoughShardsHaveBlock = (code : Shape) (len : ℕ) (numbers shards : List ℕ) �
     → length shards ≡ shard_count code * len → All IsByte shards
     → (block : List ℕ) × IsBlock code len block × All (λ number. shard_of len block number ≡ shard_of len shards number) numbers
 
--- without parity shards, all data shards are a block
+-- without parity shards, any data shards are a block, however many they are
 abbrev pub DataAloneIsBlock : Type 0
-DataAloneIsBlock = (code : Shape) (len : ℕ) (shards : List ℕ) → IsCode code → code.parity ≡ 0
+DataAloneIsBlock = (code : Shape) (len : ℕ) (shards : List ℕ) → code.parity ≡ 0
     → length shards ≡ code.data * len → All IsByte shards → IsBlock code len shards
+
+-- and where they are those of a code, each of their columns is a codeword
+abbrev pub DataAloneHasCodewords : Type 0
+DataAloneHasCodewords = (code : Shape) (len : ℕ) (shards : List ℕ) → IsCode code → code.parity ≡ 0
+    → length shards ≡ code.data * len → All IsByte shards
+    → (k : ℕ) → k < len → IsCodeword code (column (shard_count code) len shards k)

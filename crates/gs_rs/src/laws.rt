@@ -7,9 +7,11 @@ ghost use Rattle.gs_rs.specs.Laws.{
   EnoughShardsDetermineBlock,
   EnoughShardsHaveBlock,
   DataAloneIsBlock,
+  DataAloneHasCodewords,
 };
 
 /// Any D shards of a block determine it, and D shards of any content are those of a block.
+/// Without parity shards any data is a block.
 pub fn code_laws()
     ensures codes { LimitsMakeCodes }
     ensures points { PointsAreDistinct }
@@ -18,4 +20,5 @@ pub fn code_laws()
     ensures determined { EnoughShardsDetermineBlock }
     ensures existing { EnoughShardsHaveBlock }
     ensures without_parity { DataAloneIsBlock }
+    ensures data_columns { DataAloneHasCodewords }
 {}

@@ -1,6 +1,6 @@
 use Rattle.gs_rs.proofs.Points.{IsByte-point, point-apart, denominator-ne-zero, is_video_code}
 use Rattle.gs_rs.proofs.Rows.{is_audio_code, point_form_is_row_form}
-use Rattle.gs_rs.proofs.Blocks.{enough_determine, enough_have, data_alone}
+use Rattle.gs_rs.proofs.Blocks.{enough_determine, enough_have, data_alone, data_alone_columns}
 use Rattle.gs_rs.proofs.laws.code_laws.Goals as goal
 
 pub returns : goal.returns
@@ -12,4 +12,5 @@ returns c = record {
   determined = enough_determine;
   existing = enough_have;
   without_parity = data_alone;
+  data_columns = data_alone_columns;
 }
