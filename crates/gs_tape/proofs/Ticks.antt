@@ -4,16 +4,17 @@ use Rattle.std.specs.Prelude.{nat_lt, ◌==◌, codes}
 use Rattle.std.specs.List.{All, slice_get}
 use Rattle.std.proofs.lemmas.Bool.{ltb-false, or_parts, cases_lt, and_cases, not-false, eqb-true, eqb-false}
 use Rattle.std.proofs.lemmas.List.{get_or_past}
+use Rattle.std.proofs.lemmas.List.Elements.{All-nil, All-cons}
 use Rattle.gs_tape.specs.Tick.{Tick}
 use Rattle.gs_tape.specs.Reading.{Fault, Malformed, Full, AudioLength, unless, number_at, text_at, Head, head_at, most_unit, most_bytes, most_count, most_ticks, most_audio, unit_at, deltas_at, audio_at, Before, tick_at, Read, ends_with, with_tick, ticks_at, before_first, read_behind, read, ticks_of, audio_of_head, audio_length}
-use Rattle.gs_tape.specs.Limits.{IsWithinLimits, AreWithinLimits, IsTickWithinLimits}
+use Rattle.gs_tape.specs.Limits.{IsWithinLimits, AreWithinLimits, IsTickWithinLimits, HoldsBytes, TicksHoldBytes}
 use Rattle.gs_tape.proofs.Results.{Gives, gives_then, gives_unless}
-use Rattle.gs_tape.proofs.Readings.{AreBytes, number_gives, unit_gives, Deltas, deltas_give, Sounds, sounds_give}
+use Rattle.gs_tape.proofs.Readings.{AreBytes, HoldBytes, number_gives, unit_gives, Deltas, deltas_give, Sounds, sounds_give}
 
 -- ---- one tick
 
 abbrev IsTick : ℕ → Before → Tick × (ℕ × List ℕ) → Type 0
-IsTick audio before x = IsWithinLimits audio before.number before.time x.0 × AreBytes x.1.1
+IsTick audio before x = IsWithinLimits audio before.number before.time x.0 × HoldsBytes x.0 × AreBytes x.1.1
 
 silent_is : (sounds audio : ℕ) → (not (sounds == 0) && audio == 0) ≡ false → audio ≡ 0 → sounds ≡ 0
 silent_is sounds audio e none = elim (and_cases (not (sounds == 0)) (audio == 0) e) [
@@ -43,11 +44,11 @@ tick_gives size audio before rest most bytes =
     gives_then (λ left. (count.0 ≤ most_count) × AreBytes left) T (unless (nat_lt most_count count.0) (Malformed 4 (size - length room)) (Ok count.1)) _
     (gives_unless (λ left. (count.0 ≤ most_count) × AreBytes left) (nat_lt most_count count.0) (Malformed 4 (size - length room)) (Ok count.1)
     (λ e. (ltb-false most_count count.0 e, hc.1))) (λ counted hk.
-    gives_then (λ x. (length x.0 ≤ most_unit) × AreBytes x.1) T (unit_at size before.number (before.held + sounds.0 * audio) counted) _
+    gives_then (λ x. (length x.0 ≤ most_unit) × HoldBytes x.0 × AreBytes x.1) T (unit_at size before.number (before.held + sounds.0 * audio) counted) _
     (unit_gives size before.number (before.held + sounds.0 * audio) counted hk.1) (λ idr hi.
     gives_then (Deltas count.0 0 before.number) T (deltas_at count.0 size before.number 0 (before.held + sounds.0 * audio + length idr.0) idr.1) _
-    (deltas_give count.0 size before.number 0 (before.held + sounds.0 * audio + length idr.0) idr.1 hi.1) (λ deltas hd.
-    gives_then (Sounds sounds.0 audio) T (audio_at sounds.0 size audio deltas.1.1) _ (sounds_give sounds.0 size audio deltas.1.1 hd.2) (λ units hu. (
+    (deltas_give count.0 size before.number 0 (before.held + sounds.0 * audio + length idr.0) idr.1 hi.2) (λ deltas hd.
+    gives_then (Sounds sounds.0 audio) T (audio_at sounds.0 size audio deltas.1.1) _ (sounds_give sounds.0 size audio deltas.1.1 hd.3) (λ units hu. (
       record {
         number_is = refl;
         number_most = most;
@@ -60,13 +61,14 @@ tick_gives size audio before rest most bytes =
         silent = λ none. hu.0 ∙ hf.1 none;
         audio_whole = hu.1;
       },
-      hu.2,
+      record { idr = hi.1; deltas = hd.2; audio = hu.2 },
+      hu.3,
     )))))))))))
 
 -- ---- all of them
 
 abbrev Keeps : ℕ → Before → Read → Type 0
-Keeps audio before r = AreWithinLimits audio before.number before.time r.ticks
+Keeps audio before r = AreWithinLimits audio before.number before.time r.ticks × All HoldsBytes r.ticks
 
 abbrev after : Before → Tick → ℕ → Before
 after before t held = record { number = before.number + 1; time = t.time; held = held }
@@ -75,8 +77,9 @@ with_tick_keeps : (audio : ℕ) (before : Before) (r : Result (Tick × (ℕ × L
     → Gives (IsTick audio before) r
     → ((t : Tick) (held : ℕ) (left : List ℕ) → AreBytes left → Keeps audio (after before t held) (next t held left))
     → Keeps audio before (with_tick r next)
-with_tick_keeps audio before (Err e) next h keeps = tt
-with_tick_keeps audio before (Ok x) next h keeps = (h.0, keeps x.0 x.1.0 x.1.1 h.1)
+with_tick_keeps audio before (Err e) next h keeps = (tt, All-nil HoldsBytes)
+with_tick_keeps audio before (Ok x) next h keeps =
+    let rest = keeps x.0 x.1.0 x.1.1 h.2 in ((h.0, rest.0), All-cons HoldsBytes x.0 (next x.0 x.1.0 x.1.1).ticks h.1 rest.1)
 
 -- what the tag of a tick leads to
 abbrev chosen : Bool → Bool → Bool → Bool → Fault → Fault → Fault → Read → Read
@@ -91,16 +94,16 @@ chosen end empty tag full behind many other next =
 
 chosen_keeps : (audio : ℕ) (before : Before) (end empty tag full : Bool) (behind many other : Fault) (next : Read)
     → (full ≡ false → Keeps audio before next) → Keeps audio before (chosen end empty tag full behind many other next)
-chosen_keeps audio before true true tag full behind many other next h = tt
-chosen_keeps audio before true false tag full behind many other next h = tt
-chosen_keeps audio before false empty true true behind many other next h = tt
+chosen_keeps audio before true true tag full behind many other next h = (tt, All-nil HoldsBytes)
+chosen_keeps audio before true false tag full behind many other next h = (tt, All-nil HoldsBytes)
+chosen_keeps audio before false empty true true behind many other next h = (tt, All-nil HoldsBytes)
 chosen_keeps audio before false empty true false behind many other next h = h refl
-chosen_keeps audio before false empty false full behind many other next h = tt
+chosen_keeps audio before false empty false full behind many other next h = (tt, All-nil HoldsBytes)
 
 pub ticks_keep : (steps size audio : ℕ) (before : Before) (rest : List ℕ) → AreBytes rest → Keeps audio before (ticks_at steps size audio before rest)
 unfolding ticks_at
-ticks_keep zero size audio before rest bytes = tt
-ticks_keep (suc steps) size audio before [] bytes = tt
+ticks_keep zero size audio before rest bytes = (tt, All-nil HoldsBytes)
+ticks_keep (suc steps) size audio before [] bytes = (tt, All-nil HoldsBytes)
 ticks_keep (suc steps) size audio before (tag ∷ rest) bytes =
     let behind : AreBytes rest = λ i. bytes (suc i) in
     chosen_keeps audio before (tag == 0x45) (length rest == 0) (tag == 0x54) (nat_lt most_ticks before.number)
@@ -144,14 +147,22 @@ AreBytes-from_All xs all i = elim (cases_lt i (length xs)) [
 ]
 
 behind_keeps : (size : ℕ) (h : Result (Head × List ℕ) Fault) → Gives IsHead h
-    → AreWithinLimits (audio_of_head h) 1 0 (read_behind size h).ticks
-behind_keeps size (Err e) is = tt
+    → Keeps (audio_of_head h) before_first (read_behind size h)
+behind_keeps size (Err e) is = (tt, All-nil HoldsBytes)
 behind_keeps size (Ok h) is = ticks_keep size size h.0.audio before_first h.1 is.1
 
-pub ticks_keep_limits : (bytes : List ℕ) → All (λ b. b < 2 ^ 8) bytes → AreWithinLimits (audio_length bytes) 1 0 (ticks_of bytes)
+-- the ticks of any bytes keep the limits, and hold bytes
+read_keeps : (bytes : List ℕ) → All (λ b. b < 2 ^ 8) bytes → Keeps (audio_length bytes) before_first (read bytes)
 unfolding read
-ticks_keep_limits bytes all =
+read_keeps bytes all =
     behind_keeps (length bytes) (head_at (length bytes) bytes) (head_gives (length bytes) bytes (AreBytes-from_All bytes all))
+
+pub ticks_keep_limits : (bytes : List ℕ) → All (λ b. b < 2 ^ 8) bytes → AreWithinLimits (audio_length bytes) 1 0 (ticks_of bytes)
+ticks_keep_limits bytes all = (read_keeps bytes all).0
+
+-- the units of these ticks are lists of bytes
+pub ticks_hold_bytes : TicksHoldBytes
+ticks_hold_bytes bytes all = (read_keeps bytes all).1
 
 audio_keeps : (h : Result (Head × List ℕ) Fault) → Gives IsHead h → audio_of_head h ≤ most_audio
 audio_keeps (Err e) is = omega arith
@@ -161,7 +172,7 @@ pub audio_length_keeps : (bytes : List ℕ) → All (λ b. b < 2 ^ 8) bytes → 
 audio_length_keeps bytes all = audio_keeps (head_at (length bytes) bytes) (head_gives (length bytes) bytes (AreBytes-from_All bytes all))
 
 -- the tick at a place
-tick_at_place : (audio number time : ℕ) (ts : List Tick) (i : ℕ) (t : Tick) → AreWithinLimits audio number time ts → slice_get ts i ≡ Some t
+pub tick_at_place : (audio number time : ℕ) (ts : List Tick) (i : ℕ) (t : Tick) → AreWithinLimits audio number time ts → slice_get ts i ≡ Some t
     → IsTickWithinLimits audio (number + i) t
 tick_at_place audio number time [] i t within e = cc
 tick_at_place audio number time (x ∷ ts) zero t within e =

@@ -44,3 +44,12 @@ abbrev pub EachTickIsWithinLimits : Type 0
 EachTickIsWithinLimits =
     (bytes : List ℕ) (k : ℕ) (t : Tick) → All (λ b. b < 2 ^ 8) bytes → 1 ≤ k → slice_get (ticks_of bytes) (k - 1) ≡ Some t
     → IsTickWithinLimits (audio_length bytes) k t
+
+-- each unit of a tick is a list of bytes
+pub record HoldsBytes (t : Tick) : Type 0 where
+  pub idr : All (λ b. b < 2 ^ 8) t.idr
+  pub deltas : All (λ d. All (λ b. b < 2 ^ 8) d.unit) t.deltas
+  pub audio : All (All (λ b. b < 2 ^ 8)) t.audio
+
+abbrev pub TicksHoldBytes : Type 0
+TicksHoldBytes = (bytes : List ℕ) → All (λ b. b < 2 ^ 8) bytes → All HoldsBytes (ticks_of bytes)

@@ -1,4 +1,4 @@
-use Rattle.gs_tape.proofs.Ticks.{ticks_keep_limits, audio_length_keeps, each_tick_keeps}
+use Rattle.gs_tape.proofs.Ticks.{ticks_keep_limits, audio_length_keeps, each_tick_keeps, ticks_hold_bytes}
 use Rattle.gs_tape.proofs.laws.ticks_keep_limits.Goals as goal
 
 pub returns-clause-ticks : goal.returns-clause-ticks
@@ -9,3 +9,6 @@ returns-clause-audio_length c = audio_length_keeps
 
 pub returns-clause-each : goal.returns-clause-each
 returns-clause-each c = each_tick_keeps
+
+pub returns-clause-bytes : goal.returns-clause-bytes
+returns-clause-bytes c = ticks_hold_bytes
