@@ -92,7 +92,7 @@ sound_re_entry h t (Some v) is =
     }
 
 -- the choice by the tests that it makes
-abbrev choice_by : List Entry → Tick → Bool → Bool → Bool → Choice
+abbrev pub choice_by : List Entry → Tick → Bool → Bool → Bool → Choice
 choice_by h t owed valid named =
     if owed then idr
     else (if valid then (if named then record { kind = 1; reference = frames h } else idr) else re_entry (greatest_named h t (frames h)))
