@@ -2,7 +2,7 @@
 use Rattle.std.proofs.Common.{◌≡◌, ◌<◌, ◌≤◌, ◌+◌, ℕ, zero, suc, Bool, true, false, ◌&&◌, List, [], ◌∷◌, Option, Some, None, refl, sym, ap, ◌∙◌, arith, inl, inr}
 use Rattle.std.specs.Prelude.{nat_le, ◌==◌, if◌then◌else◌}
 use Rattle.std.specs.List.{filter, list_any}
-use Rattle.std.proofs.lemmas.Bool.{cond-true, cond-false, and_left, cases_Bool, ne_eqb}
+use Rattle.std.proofs.lemmas.Bool.{cond-true, cond-false, and_left, and_parts, eqb-true, cases_Bool, ne_eqb}
 use Rattle.std.proofs.lemmas.Bool.Decides.{nat_tests}
 use Rattle.gs_rtp.specs.Stream.{StreamSettings}
 use Rattle.gs_frames.specs.Datagrams.{payload_of}
@@ -53,6 +53,12 @@ NoneOf-from_oldest f (r ∷ rs) e =
 pub oldest_of_frame-none : (f : ℕ) (rs : List Received) → NoneOf f rs → oldest (is_of_frame f) rs ≡ None
 oldest_of_frame-none f [] h = refl
 oldest_of_frame-none f (r ∷ rs) h = oldest-miss (is_of_frame f) r rs h.0 ∙ oldest_of_frame-none f rs h.1
+
+-- what passes the test of a block is of the frame and the block
+pub of_block-frame : (f block : ℕ) (r : Received) → is_of_block f block r ≡ true → (r.head.frame ≡ f) × (r.head.block ≡ block)
+of_block-frame f block r passes =
+    let tests = and_parts (r.head.frame == f) (r.head.block == block) passes in
+    (eqb-true r.head.frame f tests.0, eqb-true r.head.block block tests.1)
 
 is_of_block-miss : (f block : ℕ) (r : Received) → is_of_frame f r ≡ false → is_of_block f block r ≡ false
 is_of_block-miss f block r e = and_left (r.head.frame == f) (r.head.block == block) e
@@ -146,6 +152,41 @@ complete-other s r rs f e =
 -- a frame of which nothing came isn't complete
 pub complete-none : (s : StreamSettings) (rs : List Received) (f : ℕ) → NoneOf f rs → complete s rs f ≡ None
 complete-none s rs f h = complete-is s rs f ∙ ap (complete_by s f (counting rs)) (oldest_of_frame-none f rs h)
+
+-- a frame with a block that isn't whole has no image
+both-none : (x : Option (List ℕ)) → both x None ≡ None
+both-none None = refl
+both-none (Some x) = refl
+
+-- blocks of which nothing counts aren't whole
+payloads-none : (s : StreamSettings) (counted : List Received) (f n : ℕ) → 0 < n → NoneOf f counted → payloads s counted f n ≡ None
+payloads-none s counted f zero some none = absurd (omega arith)
+payloads-none s counted f (suc n) some none =
+    ap (λ (o : Option Received). both (payloads s counted f n) (block_payloads s (filter (is_of_block f n) counted) o)) (oldest_of_block-none f n counted none)
+    ∙ both-none (payloads s counted f n)
+
+-- so a frame of which nothing counts isn't complete, whatever came first of it
+complete_by-none : (s : StreamSettings) (f : ℕ) (counted : List Received) (o : Option Received) → NoneOf f counted → complete_by s f counted o ≡ None
+complete_by-none s f counted None none = refl
+complete_by-none s f counted (Some first) none =
+    ap (frame_in (payload_of s)) (payloads-none s counted f (first.head.last_block + 1) (omega arith) none)
+
+-- its own frame isn't changed by a datagram that doesn't count
+complete-own : (s : StreamSettings) (r : Received) (rs : List Received) (f : ℕ) (o : Option Received) → oldest (is_of_frame f) rs ≡ o
+    → counting (r ∷ rs) ≡ counting rs → complete s (r ∷ rs) f ≡ complete s rs f
+complete-own s r rs f (Some first) e same =
+    complete-same s (r ∷ rs) rs f same (oldest-kept (is_of_frame f) r rs first e ∙ sym e)
+complete-own s r rs f None e same =
+    let none = NoneOf-from_oldest f rs e in
+    complete-is s (r ∷ rs) f
+    ∙ ap (λ (c : List Received). complete_by s f c (oldest (is_of_frame f) (r ∷ rs))) same
+    ∙ complete_by-none s f (counting rs) (oldest (is_of_frame f) (r ∷ rs)) (NoneOf-counting f rs none)
+    ∙ sym (complete-none s rs f none)
+
+-- a datagram that doesn't count changes no frame
+pub complete-passed : (s : StreamSettings) (r : Received) (rs : List Received) → counting (r ∷ rs) ≡ counting rs
+    → (f : ℕ) → complete s (r ∷ rs) f ≡ complete s rs f
+complete-passed s r rs same f = complete-own s r rs f (oldest (is_of_frame f) rs) refl same
 
 -- ---- the greatest frame
 

@@ -1,15 +1,24 @@
--- The definitions at small values, computed.
-use Rattle.std.specs.Prelude.{ℕ, zero, suc, ◌≡◌, List, [], ◌∷◌, codes, refl, replicate}
-use Rattle.gs_gf256.specs.Field.{product, inverse, inverse_below, polynomial_product, remainder, field_sum}
+-- The definitions at small values, computed, and a restored frame by the laws.
+use Rattle.std.proofs.Common.{◌≡◌, ◌≢◌, ◌<◌, ℕ, List, [], ◌∷◌, get_or, take, drop, map, replicate, Some, refl, arith, inl, inr, lit<, lit≤}
+use Rattle.std.specs.Prelude.{codes}
+use Rattle.std.specs.List.{All, AllPairs}
+use Rattle.std.proofs.lemmas.Bool.Decides.{Decides-eqb}
+use Rattle.std.proofs.lemmas.Cmp.{nat_eq_equiv}
+use Rattle.std.proofs.lemmas.List.{length-replicate}
+use Rattle.std.proofs.lemmas.List.Elements.{All-from_recursion, All-replicate}
+use Rattle.std.proofs.lemmas.Map.Made.{AllPairs-from_IsDistinct, IsDistinct-from_count}
+use Rattle.gs_gf256.specs.Field.{IsByte, product, inverse, inverse_below, polynomial_product, remainder, field_sum}
 use Rattle.gs_poly.specs.Polynomial.{ratio_product}
 use Rattle.gs_rs.specs.Shape.{differences}
 use Rattle.gs_rtp.specs.Stream.{StreamSettings}
 use Rattle.gs_frames.specs.Image.{frame_image, frame_of, packets, last_length}
 use Rattle.gs_frames.specs.Plan.{fec_plan, BlockPlan}
-use Rattle.gs_frames.specs.Datagrams.{frame_datagrams}
-use Rattle.gs_frames.specs.Received.{received, counting}
+use Rattle.gs_frames.specs.Datagrams.{plan_of, frame_datagrams}
+use Rattle.gs_frames.specs.Received.{received, taken, counting}
 use Rattle.gs_frames.specs.Complete.{complete}
 use Rattle.gs_frames.specs.Handed.{handed, asks, handed_through, is_handed, asks_of}
+use Rattle.gs_frames.specs.FrameLaws.{IsSent}
+use Rattle.gs_frames.proofs.OneBlock.{IsOneBlock, one_block-complete, one_block-handed}
 
 small : StreamSettings
 small = record { packet = 1024; percentage = 0; minimum = 0; fps = 60; duration = 5; audio = 0; ssrc = 1 }
@@ -84,10 +93,7 @@ abbrev next_two : List (List ℕ)
 next_two = frame_datagrams small 2 2 2 17 (long 66)
 
 abbrev at : ℕ → List (List ℕ) → List ℕ
-at zero [] = []
-at zero (x ∷ xs) = x
-at (suc n) [] = []
-at (suc n) (x ∷ xs) = at n xs
+at n datagrams = get_or datagrams n []
 
 abbrev came : List (List ℕ)
 came = at 1 next_two ∷ at 1 first_two ∷ at 0 next_two ∷ at 0 first_two ∷ []
@@ -104,3 +110,85 @@ lost = refl
 one_of_three : handed with_parity (at 2 (frame_datagrams with_parity 0 1 2 0 (codes "AB")) ∷ []) ≡ record { frame = 1; kind = 2; unit = codes "AB" } ∷ []
 unfolding with_parity frame_datagrams fec_plan frame_image handed handed_through is_handed received counting complete frame_of product inverse inverse_below polynomial_product remainder field_sum ratio_product differences
 one_of_three = refl
+
+-- the FEC information of its first datagram: one data shard, number 0, and 200 percent
+least_parity_written : take 4 (drop 28 (at 0 (frame_datagrams with_parity 0 1 2 0 (codes "AB")))) ≡ 0x80 ∷ 0x0C ∷ 0x40 ∷ 0 ∷ []
+unfolding with_parity frame_datagrams fec_plan frame_image
+least_parity_written = refl
+
+-- a unit of 10,000 bytes at a fifth of parity: ten packets, the last of which has 936 bytes, and two parity shards
+ten_packets : (packets 10000 1008 ≡ 10) × (last_length 10000 1008 ≡ 936)
+ten_packets = (refl, refl)
+
+ten_and_two : fec_plan 10 20 0 ≡ plan 10 2 20 ∷ []
+unfolding fec_plan
+ten_and_two = refl
+
+-- nine distinct shards and one that repeats hand nothing, ten distinct ones hand the frame
+fifth : StreamSettings
+fifth = record { packet = 1024; percentage = 20; minimum = 0; fps = 60; duration = 5; audio = 0; ssrc = 1 }
+
+abbrev numbered : StreamSettings → List ℕ → List ℕ → List (List ℕ)
+numbered settings unit ks = map (λ k. at k (frame_datagrams settings 0 1 2 0 unit)) ks
+
+abbrev nine : List ℕ
+nine = 8 ∷ 7 ∷ 6 ∷ 5 ∷ 4 ∷ 3 ∷ 2 ∷ 1 ∷ 0 ∷ []
+
+repeated : handed fifth (numbered fifth (replicate 10000 67) (8 ∷ nine)) ≡ []
+unfolding fifth frame_datagrams fec_plan frame_image handed handed_through is_handed received counting complete
+repeated = refl
+
+ten_distinct : handed fifth (numbered fifth (replicate 10000 67) (9 ∷ nine)) ≡ record { frame = 1; kind = 2; unit = replicate 10000 67 } ∷ []
+unfolding fifth frame_datagrams fec_plan frame_image handed handed_through is_handed received counting complete frame_of
+ten_distinct = refl
+
+-- The first parity shard in place of the tenth restores the frame. To compute it takes too many steps: this is by
+-- the laws.
+fifth_sent : IsSent fifth 1 2 (replicate 10000 67)
+unfolding fifth
+fifth_sent = record {
+  limits = record {
+    packet_least = lit≤ tt;
+    packet_greatest = lit≤ tt;
+    percentage_greatest = lit≤ tt;
+    minimum_greatest = lit≤ tt;
+    fps_least = lit≤ tt;
+    fps_greatest = lit≤ tt;
+    duration_known = inl refl;
+    audio_greatest = lit≤ tt;
+    ssrc_least = lit≤ tt;
+    ssrc_greatest = lit≤ tt;
+  };
+  frame_least = lit≤ tt;
+  frame_greatest = lit≤ tt;
+  written = inr (inl refl);
+  unit_greatest = omega (arith, length-replicate {A = ℕ} 10000 67);
+  unit_bytes = All-replicate IsByte 10000 67 (lit< tt);
+}
+
+fifth_planned : plan_of fifth (replicate 10000 67) ≡ plan 10 2 20 ∷ []
+unfolding fifth fec_plan
+fifth_planned = refl
+
+ten_numbers : All (λ k. k < 12) (10 ∷ nine)
+ten_numbers = All-from_recursion (λ k. k < 12) (10 ∷ nine) (lit< tt, (lit< tt, (lit< tt, (lit< tt, (lit< tt, (lit< tt, (lit< tt, (lit< tt, (lit< tt, (lit< tt, tt))))))))))
+
+ten_apart : AllPairs (λ m n. m ≢ n) (10 ∷ nine)
+ten_apart = AllPairs-from_IsDistinct Decides-eqb (10 ∷ nine) (IsDistinct-from_count nat_eq_equiv (10 ∷ nine) refl)
+
+ten_with_parity : IsOneBlock fifth 0 1 2 0 (replicate 10000 67) (plan 10 2 20) (10 ∷ nine)
+ten_with_parity = record { sent = fifth_sent; planned = fifth_planned; within = ten_numbers; distinct = ten_apart; counted = refl }
+
+restored_complete : complete fifth (taken fifth (numbered fifth (replicate 10000 67) (10 ∷ nine))) 1 ≡ Some (record { kind = 2; unit = replicate 10000 67 })
+restored_complete = one_block-complete fifth 0 1 2 0 (replicate 10000 67) (plan 10 2 20) (10 ∷ nine) ten_with_parity
+
+restored_handed : handed fifth (numbered fifth (replicate 10000 67) (10 ∷ nine)) ≡ record { frame = 1; kind = 2; unit = replicate 10000 67 } ∷ []
+restored_handed = one_block-handed fifth 0 0 (replicate 10000 67) (plan 10 2 20) (10 ∷ nine) (lit≤ tt) ten_with_parity
+
+-- the same ten and two with payloads of eight bytes, computed
+narrow : StreamSettings
+narrow = record { packet = 24; percentage = 20; minimum = 0; fps = 60; duration = 5; audio = 0; ssrc = 1 }
+
+restored : handed narrow (numbered narrow (replicate 72 67) (10 ∷ nine)) ≡ record { frame = 1; kind = 2; unit = replicate 72 67 } ∷ []
+unfolding narrow frame_datagrams fec_plan frame_image handed handed_through is_handed received counting complete frame_of product inverse inverse_below polynomial_product remainder field_sum ratio_product differences
+restored = refl

@@ -6,3 +6,17 @@ pub mod Images
 pub mod OnePacket
 pub mod LoneBytes
 pub mod Plans
+pub mod Restored
+pub mod PlanLimits
+pub mod ShardsReceived
+pub mod ShardForms
+pub mod FramesReceived
+pub mod Fills
+pub mod CompleteStays
+pub mod SentBlocks
+pub mod WholeBlocks
+pub mod Members
+pub mod CompleteSent
+pub mod HandedGrows
+pub mod EnoughCame
+pub mod OneBlock

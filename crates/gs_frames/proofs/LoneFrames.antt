@@ -1,16 +1,16 @@
 -- Lists of datagrams that are each the one datagram of an IDR frame.
 use Rattle.std.proofs.Common.{◌≡◌, ◌<◌, ◌≤◌, ◌+◌, ℕ, Bool, true, false, ◌&&◌, not, List, [], ◌∷◌, ◌++◌, length, drop, map, Option, Some, None, refl, sym, ap, subst, ◌∙◌, arith, inl, inr}
 use Rattle.std.specs.Prelude.{nat_lt, nat_le, is_some, ◌==◌, if◌then◌else◌}
-use Rattle.std.specs.List.{filter, find, list_any, range_with_len, AllByRecursion}
-use Rattle.std.proofs.lemmas.Bool.{cond-true, cases_lt, cases_eq, ne_eqb, eq-eqb, and_from, or_left, le-leb, lt-ltb}
+use Rattle.std.specs.List.{concat, filter, find, list_any, range_with_len, AllByRecursion}
+use Rattle.std.proofs.lemmas.Bool.{cond-true, cases_lt, eq-eqb, and_from, or_left, le-leb, lt-ltb}
 use Rattle.std.proofs.lemmas.List.{append-nil}
 use Rattle.gs_rtp.specs.Stream.{StreamSettings}
 use Rattle.gs_frames.specs.Image.{Frame}
 use Rattle.gs_frames.specs.Datagrams.{payload_of, packet_header}
 use Rattle.gs_frames.specs.Received.{Received, greatest, oldest, is_of_frame, is_of_block, counts, counting, same_frame, same_block}
-use Rattle.gs_frames.specs.Complete.{block_payloads, block_shard, held_or_restored, code_of, joined, both, payloads, image_behind, frame_in, complete}
+use Rattle.gs_frames.specs.Complete.{block_payloads, block_shard, held_or_restored, code_of, both, payloads, image_behind, frame_in, complete}
 use Rattle.gs_frames.specs.Lone.{IsLone}
-use Rattle.gs_frames.proofs.Counting.{NoneOf-from_oldest, NoneOf-counting, NoneOf-above, oldest-kept, oldest-new, oldest_of_frame-none, oldest_of_block-none, filter_of_block-none, any_shard-none, is_shard, counting-not, counting-one, complete_by, complete-is, complete-same, complete-other, complete-none, greatest-new, greatest-kept, counts-below}
+use Rattle.gs_frames.proofs.Counting.{NoneOf-counting, NoneOf-above, oldest-kept, oldest-new, oldest_of_frame-none, oldest_of_block-none, filter_of_block-none, any_shard-none, is_shard, counting-not, counting-one, complete_by, complete-is, complete-passed, greatest-new, greatest-kept, counts-below}
 
 -- ---- the five tests of `counts`
 
@@ -46,7 +46,7 @@ lone_payloads : (s : StreamSettings) (r : Received) → r.head.shards ≡ 1 → 
     → block_payloads s (r ∷ []) (Some r) ≡ Some (drop packet_header r.shard)
 lone_payloads s r shards index =
     let found : find (λ c. c.head.index == 0) (r ∷ []) ≡ Some r = cond-true (r.head.index == 0) (Some r) None (eq-eqb r.head.index 0 index) in
-    ap (λ (n : ℕ). if 1 == n then Some (joined (map (payload_at s r) (range_with_len 0 n))) else None) shards
+    ap (λ (n : ℕ). if 1 == n then Some (concat (map (payload_at s r) (range_with_len 0 n))) else None) shards
     ∙ ap (λ (o : Option Received). Some (drop packet_header (held_or_restored (code_of r) s.packet (r ∷ []) 0 o) ++ [])) found
     ∙ ap (λ (l : List ℕ). Some l) (append-nil (drop packet_header r.shard))
 
@@ -122,31 +122,6 @@ counting-old s r rs lone held old = elim (cases_lt r.head.frame (greatest rs)) [
       (nat_lt (length (filter (is_of_block r.head.frame r.head.block) (counting rs))) r.head.shards) repeated)
 ]
 
--- nor does it change any frame
-complete-repeated : (s : StreamSettings) (r : Received) (rs : List Received) → IsLone s r → counting (r ∷ rs) ≡ counting rs
-    → (o : Option Received) → oldest (is_of_frame r.head.frame) rs ≡ o → complete s (r ∷ rs) r.head.frame ≡ complete s rs r.head.frame
-complete-repeated s r rs lone same (Some first) e =
-    complete-same s (r ∷ rs) rs r.head.frame same (oldest-kept (is_of_frame r.head.frame) r rs first e ∙ sym e)
-complete-repeated s r rs lone same None e =
-    let f = r.head.frame in
-    let none = NoneOf-from_oldest f rs e in
-    let first = oldest_of_block-none f 0 (counting rs) (NoneOf-counting f rs none) in
-    complete-is s (r ∷ rs) f
-    ∙ ap (λ (c : List Received). complete_by s f c (oldest (is_of_frame f) (r ∷ rs))) same
-    ∙ ap (complete_by s f (counting rs)) (oldest-new (is_of_frame f) r rs e (eq-eqb f f refl))
-    ∙ lone_image s (counting rs) f r lone.last_block
-    ∙ ap (image_by s (filter (is_of_block f 0) (counting rs))) first
-    ∙ sym (complete-none s rs f none)
-
-pub complete-old : (s : StreamSettings) (r : Received) (rs : List Received) → IsLone s r → counting (r ∷ rs) ≡ counting rs
-    → (f : ℕ) → complete s (r ∷ rs) f ≡ complete s rs f
-complete-old s r rs lone same f = elim (cases_eq r.head.frame f) [
-  | inl this ↦
-      let Same : ℕ → Type 0 = λ k. complete s (r ∷ rs) k ≡ complete s rs k in
-      subst Same this (complete-repeated s r rs lone same (oldest (is_of_frame r.head.frame) rs) refl)
-  | inr other ↦ complete-other s r rs f (ne_eqb r.head.frame f other)
-]
-
 held-old : (s : StreamSettings) (r : Received) (rs : List Received) → IsLone s r → IsHeld s rs (greatest rs) → r.head.frame ≤ greatest rs
     → IsHeld s (r ∷ rs) (greatest rs)
 held-old s r rs lone held old =
@@ -155,7 +130,7 @@ held-old s r rs lone held old =
       first = held.first;
       came = oldest-kept (is_of_frame (greatest rs)) r rs held.first held.came;
       counted = ap (list_any (is_shard (greatest rs) 0 0)) same ∙ held.counted;
-      whole = ap (λ (o : Option Frame). is_some o) (complete-old s r rs lone same (greatest rs)) ∙ held.whole;
+      whole = ap (λ (o : Option Frame). is_some o) (complete-passed s r rs same (greatest rs)) ∙ held.whole;
     }
 
 pub lone_held : (s : StreamSettings) (rs : List Received) → AllByRecursion (IsLone s) rs → 0 < greatest rs → IsHeld s rs (greatest rs)

@@ -12,8 +12,8 @@ use Rattle.gs_frames.specs.Complete.{complete}
 use Rattle.gs_frames.specs.Handed.{Handed, is_re_entry, is_decodable, is_handed, handed_one, handed_through, handed_of, Range, range_or_none, first_lost, asks_of}
 use Rattle.gs_frames.specs.Lone.{IsLone}
 use Rattle.gs_frames.specs.LoneLaws.{IsNewFrame, IsPassedBy}
-use Rattle.gs_frames.proofs.Counting.{NoneOf-above, complete-other, complete-none, greatest-new, greatest-kept}
-use Rattle.gs_frames.proofs.LoneFrames.{complete-new, complete-old, counting-old, lone_held}
+use Rattle.gs_frames.proofs.Counting.{NoneOf-above, complete-other, complete-none, complete-passed, greatest-new, greatest-kept}
+use Rattle.gs_frames.proofs.LoneFrames.{complete-new, counting-old, lone_held}
 
 -- ---- what is handed depends on what is complete
 
@@ -25,10 +25,10 @@ is_handed-same s rs rs' (suc n) same =
     ap (λ (below : Bool). is_decodable below (complete s rs (suc n))) (is_handed-same s rs rs' n (λ f h. same f (omega arith)))
     ∙ ap (is_decodable (is_handed s rs' n)) (same (suc n) (omega arith))
 
-abbrev handed_next : List Handed → Bool → ℕ → Option Frame → List Handed
+abbrev pub handed_next : List Handed → Bool → ℕ → Option Frame → List Handed
 handed_next before handed f held = before ++ (if handed then handed_one f held else [])
 
-handed_through-same : (s : StreamSettings) (rs rs' : List Received) (n : ℕ) → ((f : ℕ) → f ≤ n → complete s rs f ≡ complete s rs' f)
+pub handed_through-same : (s : StreamSettings) (rs rs' : List Received) (n : ℕ) → ((f : ℕ) → f ≤ n → complete s rs f ≡ complete s rs' f)
     → handed_through s rs n ≡ handed_through s rs' n
 unfolding handed_through
 handed_through-same s rs rs' zero same = refl
@@ -42,7 +42,7 @@ is_handed-idle : (s : StreamSettings) (rs : List Received) (n : ℕ) → complet
 unfolding is_handed
 is_handed-idle s rs n e = ap (is_decodable (is_handed s rs n)) e
 
-handed_through-idle : (s : StreamSettings) (rs : List Received) (g n : ℕ) → g ≤ n → ((f : ℕ) → g < f → complete s rs f ≡ None)
+pub handed_through-idle : (s : StreamSettings) (rs : List Received) (g n : ℕ) → g ≤ n → ((f : ℕ) → g < f → complete s rs f ≡ None)
     → handed_through s rs n ≡ handed_through s rs g
 unfolding handed_through
 handed_through-idle s rs g zero h idle = let same : 0 ≡ g = omega arith in ap (handed_through s rs) same
@@ -60,7 +60,7 @@ unfolding is_handed
 is_handed-re_entry s rs n frame e re =
     ap (is_decodable (is_handed s rs n)) e ∙ or_left (is_re_entry frame.kind) (is_handed s rs n) re
 
-handed_through-re_entry : (s : StreamSettings) (rs : List Received) (n : ℕ) (frame : Frame) → 0 < n → complete s rs n ≡ Some frame
+pub handed_through-re_entry : (s : StreamSettings) (rs : List Received) (n : ℕ) (frame : Frame) → 0 < n → complete s rs n ≡ Some frame
     → is_re_entry frame.kind ≡ true
     → handed_through s rs n ≡ handed_through s rs (n - 1) ++ record { frame = n; kind = frame.kind; unit = frame.unit } ∷ []
 unfolding handed_through
@@ -128,7 +128,7 @@ old_lone_frame s r rs all lone old =
     let same = counting-old s r rs lone held old in
     record {
       handed_after = ap (handed_through s (r ∷ rs)) (greatest-kept r rs old)
-          ∙ handed_through-same s (r ∷ rs) rs (greatest rs) (λ f h. complete-old s r rs lone same f);
+          ∙ handed_through-same s (r ∷ rs) rs (greatest rs) (λ f h. complete-passed s r rs same f);
       asked_after = old_asks s r rs old;
       greatest_after = greatest-kept r rs old;
     }

@@ -74,7 +74,8 @@ one_packet s count frame time unit fits =
 
 -- ---- it is received
 
-length-video_header : (h : VideoHead) (bytes : List ℕ) → length (video_header h ++ bytes) ≡ 32 + length bytes
+-- the length of a datagram
+pub length-video_header : (h : VideoHead) (bytes : List ℕ) → length (video_header h ++ bytes) ≡ 32 + length bytes
 length-video_header h bytes = omega arith
 
 pub length-lone_datagram : (s : StreamSettings) (count frame time : ℕ) (unit : List ℕ) → FitsOnePacket s unit

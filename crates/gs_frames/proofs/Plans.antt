@@ -53,7 +53,8 @@ parts_of-sum n m some large few =
     let same : ceil_div n m - 1 ≡ p.whole = omega (arith, blocks) in ap (λ (k : ℕ). k * m) same in
     parts-sum n (ceil_div n m) m large (omega (arith, full, p.sum)) (omega (arith, blocks)) few
 
-few_bare : (n : ℕ) → 1 ≤ n → n ≤ most_packets → ceil_div n most_bare ≤ 4
+-- blocks without parity are at most four
+pub few_bare : (n : ℕ) → 1 ≤ n → n ≤ most_packets → ceil_div n most_bare ≤ 4
 few_bare n some few = omega arith
 
 pub plan_covers : (n percentage minimum : ℕ) → 1 ≤ n → n ≤ most_packets → percentage ≤ 100

@@ -1,14 +1,14 @@
 -- Which frames are complete, and what they hold.
-use Rattle.std.specs.Prelude.{ℕ, zero, suc, ◌≡◌, ◌+◌, List, [], ◌∷◌, ◌++◌, length, drop, map, slice_index, Option, Some, None, ◌==◌, if◌then◌else◌}
-use Rattle.std.specs.List.{filter, find, range_with_len}
+use Rattle.std.specs.Prelude.{ℕ, zero, suc, ◌≡◌, ◌+◌, List, [], ◌++◌, length, drop, map, slice_index, Option, Some, None, ◌==◌, if◌then◌else◌}
+use Rattle.std.specs.List.{concat, filter, find, range_with_len}
 use Rattle.gs_gf256.specs.Field.{product, quotient}
 use Rattle.gs_poly.specs.Polynomial.{weighted_sum}
 use Rattle.gs_rs.specs.declared.shape.Shape.{Shape}
-use Rattle.gs_rs.specs.Shape.{point, denominator}
+use Rattle.gs_rs.specs.Shape.{video_code, point, denominator}
 use Rattle.gs_rtp.specs.Stream.{StreamSettings}
 use Rattle.gs_rtp.specs.Video.{parity_count}
 use Rattle.gs_frames.specs.Image.{Frame, frame_of}
-use Rattle.gs_frames.specs.Datagrams.{packet_header, payload_of, video_code}
+use Rattle.gs_frames.specs.Datagrams.{packet_header, payload_of}
 use Rattle.gs_frames.specs.Received.{Received, counting, is_of_frame, is_of_block, oldest}
 
 -- Byte k of a shard that isn't held, of the one block that has the held shards: the value at its point of
@@ -34,16 +34,12 @@ block_shard code size held index = held_or_restored code size held index (find (
 abbrev pub code_of : Received → Shape
 code_of r = video_code r.head.shards (parity_count r.head.shards r.head.percentage)
 
-abbrev pub joined : List (List ℕ) → List ℕ
-joined [] = []
-joined (x ∷ xs) = x ++ joined xs
-
 -- the payloads of a block's data shards, where as many shards are held as it has data shards
 abbrev pub block_payloads : StreamSettings → List Received → Option Received → Option (List ℕ)
 block_payloads settings held None = None
 block_payloads settings held (Some first) =
     if length held == first.head.shards
-    then Some (joined (map (λ i. drop packet_header (block_shard (code_of first) settings.packet held i)) (range_with_len 0 first.head.shards)))
+    then Some (concat (map (λ i. drop packet_header (block_shard (code_of first) settings.packet held i)) (range_with_len 0 first.head.shards)))
     else None
 
 abbrev pub both : Option (List ℕ) → Option (List ℕ) → Option (List ℕ)

@@ -5,8 +5,7 @@ use Rattle.std.specs.List.{range_with_len}
 use Rattle.byteorder.specs.Endian.{little_bytes, little_number}
 use Rattle.gs_gf256.specs.Field.{product, field_sum}
 use Rattle.gs_rs.specs.declared.shape.Shape.{Shape}
-use Rattle.gs_rs.specs.declared.shape.Form.TheVariants.{Video}
-use Rattle.gs_rs.specs.Shape.{coefficient}
+use Rattle.gs_rs.specs.Shape.{video_code, coefficient}
 use Rattle.gs_rtp.specs.Stream.{StreamSettings}
 use Rattle.gs_rtp.specs.declared.video.VideoHead.{VideoHead}
 use Rattle.gs_rtp.specs.Video.{video_header}
@@ -19,9 +18,6 @@ packet_header = 16
 
 abbrev pub payload_of : StreamSettings → ℕ
 payload_of settings = settings.packet - packet_header
-
-abbrev pub video_code : ℕ → ℕ → Shape
-video_code d p = record { «data» = d; parity = p; form = Video }
 
 -- the n shares of `size` bytes at the front
 abbrev pub shares : ℕ → ℕ → List ℕ → List (List ℕ)

@@ -8,3 +8,8 @@ pub mod Lone
 pub mod LoneLaws
 pub mod ImageLaws
 pub mod PlanLaws
+pub mod RestoreLaws
+pub mod FrameLaws
+pub mod FillLaws
+pub mod CompleteLaws
+pub mod HandedLaws

@@ -1,9 +1,9 @@
 -- What a client makes of the one datagram of an IDR frame, where each that came before is one too.
-use Rattle.std.specs.Prelude.{ℕ, ◌≡◌, ◌+◌, ◌-◌, ◌≤◌, ◌<◌, List, [], ◌∷◌, ◌++◌, Some}
+use Rattle.std.specs.Prelude.{ℕ, ◌≡◌, ◌+◌, ◌-◌, ◌≤◌, ◌<◌, List, [], ◌∷◌, ◌++◌}
 use Rattle.std.specs.List.{All}
 use Rattle.gs_rtp.specs.Stream.{StreamSettings}
 use Rattle.gs_frames.specs.Datagrams.{frame_datagrams}
-use Rattle.gs_frames.specs.Received.{Received, received, taken, greatest}
+use Rattle.gs_frames.specs.Received.{Received, IsReceived, taken, greatest}
 use Rattle.gs_frames.specs.Handed.{handed_of, handed, range_or_none, asks_of, asks}
 use Rattle.gs_frames.specs.Lone.{FitsOnePacket, IsLone, lone_datagram, lone_received}
 
@@ -42,7 +42,7 @@ LoneFrameIsOneDatagram =
 abbrev pub LoneDatagramIsReceived : Type 0
 LoneDatagramIsReceived =
     (settings : StreamSettings) (count frame time : ℕ) (unit : List ℕ) → FitsOnePacket settings unit → 1 ≤ frame → frame ≤ 1048576
-    → (received settings (lone_datagram settings count frame time unit) ≡ Some (lone_received settings count frame time unit))
+    → IsReceived settings (lone_datagram settings count frame time unit) (lone_received settings count frame time unit)
     × ((lone : IsLone settings (lone_received settings count frame time unit)) × (lone.unit ≡ unit))
 
 -- The same over the bytes that came, the newest datagram first.
