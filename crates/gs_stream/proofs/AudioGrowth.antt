@@ -5,12 +5,13 @@ use Rattle.std.specs.List.{flat_map, range_with_len}
 use Rattle.std.proofs.lemmas.Bool.{cases_Bool, eqb-true}
 use Rattle.std.proofs.lemmas.Grind.{flat_map-append}
 use Rattle.std.proofs.lemmas.List.{take-append-le, drop-append-le, length-drop}
+use Rattle.gs_rs.specs.Shape.{audio_code}
 use Rattle.gs_rtp.specs.Stream.{StreamSettings}
 use Rattle.gs_rtp.specs.Audio.{audio_header, block_units}
 use Rattle.gs_tape.specs.Tick.{Tick}
 use Rattle.gs_refs.specs.declared.entry.Entry.{Entry}
 use Rattle.gs_frames.specs.Datagrams.{parity_shard}
-use Rattle.gs_stream.specs.Audio.{audio_code, audio_units, numbered, unit_datagrams, audio_datagrams, audio_stream}
+use Rattle.gs_stream.specs.Audio.{audio_units, numbered, unit_datagrams, audio_datagrams, audio_stream}
 use Rattle.gs_stream.specs.Paired.{IsPrefixOf}
 use Rattle.gs_stream.proofs.Growth.{sounds_only_grow}
 

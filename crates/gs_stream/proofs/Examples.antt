@@ -1,14 +1,21 @@
 -- The definitions at small histories, computed.
-use Rattle.std.specs.Prelude.{◌≡◌, List, [], ◌∷◌, codes, refl, replicate}
+use Rattle.std.proofs.Common.{ℕ, ◌≡◌, ◌+◌, ◌*◌, ◌<◌, List, [], ◌∷◌, codes, map, get_or, length, refl, sym, ap, ◌∙◌, replicate, arith}
+use Rattle.std.specs.List.{All, AllByRecursion, Contains}
+use Rattle.std.proofs.lemmas.List.Elements.{All-cons, All-nil, Contains-get_or}
 use Rattle.gs_gf256.specs.Field.{product, polynomial_product, remainder, field_sum}
 use Rattle.gs_rtp.specs.Stream.{StreamSettings}
 use Rattle.gs_tape.specs.Tick.{Tick}
 use Rattle.gs_refs.specs.declared.entry.Entry.{Entry}
-use Rattle.gs_refs.specs.declared.entry.Entry.TheVariants.{Sent}
-use Rattle.gs_frames.specs.Image.{frame_image}
+use Rattle.gs_refs.specs.declared.entry.Entry.TheVariants.{Sent, Invalid}
+use Rattle.gs_frames.specs.Image.{frame_image, frame_of}
 use Rattle.gs_frames.specs.Plan.{fec_plan}
+use Rattle.gs_refs.specs.Choice.{IsLegal}
 use Rattle.gs_frames.specs.Datagrams.{frame_datagrams}
+use Rattle.gs_frames.specs.Received.{received, counting}
+use Rattle.gs_frames.specs.Complete.{complete}
+use Rattle.gs_frames.specs.Handed.{handed, handed_through, is_handed, asks, asks_of}
 use Rattle.gs_stream.specs.Video.{video_stream, unit_of, reference_of}
+use Rattle.gs_stream.specs.Paired.{IsPaired}
 use Rattle.gs_stream.specs.Audio.{audio_stream, audio_units, numbered}
 
 sounding : StreamSettings
@@ -45,3 +52,69 @@ second_frame : numbered (video_stream sounding ticks history) 1 ≡
     ∷ 1 ∷ 0 ∷ 0 ∷ 1 ∷ 9 ∷ 0 ∷ 0 ∷ 0 ∷ 0x44 ∷ replicate 999 0
 unfolding sounding video_stream frame_datagrams fec_plan frame_image
 second_frame = refl
+
+-- A loss and the re-entry behind it: frame 2 is lost, frames 3 and 4 follow it and aren't handed, and frame 5
+-- goes out against frame 1 once the host was told.
+silent : StreamSettings
+silent = record { packet = 1024; percentage = 0; minimum = 0; fps = 60; duration = 5; audio = 0; ssrc = 1 }
+
+abbrev tick : ℕ → List ℕ → Tick
+tick n against = record { number = n; time = 0; idr = replicate 5 n; deltas = map (λ k. record { named = k; unit = replicate 4 (16 * n + k) }) against; audio = [] }
+
+abbrev capture : List Tick
+capture = tick 1 [] ∷ tick 2 (1 ∷ []) ∷ tick 3 (1 ∷ 2 ∷ []) ∷ tick 4 (1 ∷ 2 ∷ 3 ∷ []) ∷ tick 5 (1 ∷ 2 ∷ 3 ∷ 4 ∷ []) ∷ []
+
+abbrev four : List Entry
+four = Sent 4 1 3 ∷ Sent 3 1 2 ∷ Sent 2 1 1 ∷ Sent 1 2 0 ∷ []
+
+abbrev five : List Entry
+five = Sent 5 5 1 ∷ Invalid 2 2 ∷ four
+
+abbrev stream : List (List ℕ)
+stream = video_stream silent capture five
+
+-- all but the second datagram, the newest first
+abbrev came : List (List ℕ)
+came = map (λ k. get_or stream k []) (4 ∷ 3 ∷ 2 ∷ 0 ∷ [])
+
+re_entered : handed silent came ≡ record { frame = 1; kind = 2; unit = replicate 5 1 } ∷ record { frame = 5; kind = 5; unit = replicate 4 81 } ∷ []
+unfolding silent video_stream frame_datagrams fec_plan frame_image handed handed_through is_handed received counting complete frame_of
+re_entered = refl
+
+asked : asks silent came ≡ record { first = 2; last = 2 } ∷ []
+unfolding silent video_stream frame_datagrams fec_plan frame_image asks asks_of received counting complete frame_of
+asked = refl
+
+captured : (unit_of capture five 5 ≡ replicate 4 81) × (reference_of five 5 ≡ 1)
+captured = (refl, refl)
+
+legal_four : IsLegal capture four
+legal_four =
+    let first : IsLegal capture (Sent 1 2 0 ∷ []) = (tt, refl, (omega arith, tick 1 [], refl, refl)) in
+    let second : IsLegal capture (Sent 2 1 1 ∷ Sent 1 2 0 ∷ []) = (first, refl, (omega arith, tick 2 (1 ∷ []), refl, refl)) in
+    let third : IsLegal capture (Sent 3 1 2 ∷ Sent 2 1 1 ∷ Sent 1 2 0 ∷ []) = (second, refl, (omega arith, tick 3 (1 ∷ 2 ∷ []), refl, refl)) in
+    (third, refl, (omega arith, tick 4 (1 ∷ 2 ∷ 3 ∷ []), refl, refl))
+
+legal : IsLegal capture five
+legal = ((legal_four, refl, (omega arith, omega arith, omega arith)), refl, (omega arith, tick 5 (1 ∷ 2 ∷ 3 ∷ 4 ∷ []), refl, refl))
+
+five_sent : length stream ≡ 5
+unfolding silent video_stream frame_datagrams fec_plan
+five_sent = refl
+
+were_sent : (ks : List ℕ) → AllByRecursion (λ k. k < 5) ks → All (Contains stream) (map (λ k. get_or stream k []) ks)
+were_sent [] below = All-nil (Contains stream)
+were_sent (k ∷ ks) below =
+    All-cons (Contains stream) (get_or stream k []) (map (λ k. get_or stream k []) ks)
+    (Contains-get_or stream k [] (omega (arith, five_sent, below.0)))
+    (were_sent ks below.1)
+
+paired : IsPaired silent capture five came
+paired = record { sent = were_sent (4 ∷ 3 ∷ 2 ∷ 0 ∷ []) (omega arith, (omega arith, (omega arith, (omega arith, tt)))); asked = ([], asked) }
+
+-- a range that the client didn't ask for has no part in it
+abbrev unasked : List Entry
+unasked = Invalid 3 3 ∷ four
+
+not_paired : (came : List (List ℕ)) → asks silent came ≡ record { first = 2; last = 2 } ∷ [] → IsPaired silent capture unasked came → ⊥
+not_paired came e paired = let front = sym e ∙ paired.asked.1 in let first = ap (λ ranges. map (λ r. r.first) ranges) front in cc first

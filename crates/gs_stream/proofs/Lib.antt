@@ -2,3 +2,8 @@ mod Examples
 pub mod Growth
 pub mod LoneStream
 pub mod AudioGrowth
+pub mod SentFrames
+pub mod FrameStreams
+pub mod StreamFrames
+pub mod HandedSent
+pub mod CameWhole

@@ -1,5 +1,5 @@
 -- A history whose frames are IDR frames of one packet each.
-use Rattle.std.proofs.Common.{◌≡◌, ◌<◌, ◌≤◌, ◌+◌, ◌-◌, ℕ, zero, suc, List, [], ◌∷◌, ◌++◌, length, Option, Some, refl, sym, ap, subst, ◌∙◌, arith, inl, inr}
+use Rattle.std.proofs.Common.{◌≡◌, ◌≤◌, ◌+◌, ◌-◌, ℕ, List, [], ◌∷◌, ◌++◌, length, Option, Some, refl, sym, ap, subst, ◌∙◌, arith, inl, inr}
 use Rattle.std.specs.Prelude.{◌==◌}
 use Rattle.std.specs.List.{slice_get}
 use Rattle.std.proofs.lemmas.Bool.{cond-true, cond-false, cases_eq, eq-eqb, ne_eqb}
@@ -12,6 +12,7 @@ use Rattle.gs_refs.specs.History.{frames, tick_of}
 use Rattle.gs_frames.specs.Datagrams.{frame_datagrams}
 use Rattle.gs_frames.specs.Lone.{FitsOnePacket, lone_datagram}
 use Rattle.gs_frames.proofs.OnePacket.{one_packet}
+use Rattle.gs_frames.proofs.Restored.{slice_get-append_left}
 use Rattle.gs_stream.specs.Video.{tick_numbered, sent_unit, time_of, unit_of, sent_datagrams, video_stream}
 use Rattle.gs_stream.specs.StreamLaws.{IsLoneTick, AreLoneFrames, IsLoneFrame, IsLoneStream}
 
@@ -20,11 +21,6 @@ use Rattle.gs_stream.specs.StreamLaws.{IsLoneTick, AreLoneFrames, IsLoneFrame, I
 slice_get-push : {X : Type 0} (xs : List X) (x : X) (n : ℕ) → length xs ≡ n → slice_get (xs ++ x ∷ []) n ≡ Some x
 slice_get-push [] x n e = ap (slice_get (x ∷ [])) (sym e)
 slice_get-push (y ∷ xs) x n e = ap (slice_get (y ∷ xs ++ x ∷ [])) (sym e) ∙ slice_get-push xs x (length xs) refl
-
-slice_get-front : {X : Type 0} (xs ys : List X) (n : ℕ) → n < length xs → slice_get (xs ++ ys) n ≡ slice_get xs n
-slice_get-front [] ys n h = absurd (omega arith)
-slice_get-front (x ∷ xs) ys zero h = refl
-slice_get-front (x ∷ xs) ys (suc n) h = slice_get-front xs ys n (omega arith)
 
 -- ---- one more frame
 
@@ -107,7 +103,7 @@ frame_before settings ticks h tick kind reference idr lone count k least most fr
     let Fits : List ℕ → Type 0 = FitsOnePacket settings in
     record {
       went_out = ap (λ (l : List (List ℕ)). slice_get l (k - 1)) more
-          ∙ slice_get-front (video_stream settings ticks h) (lone_datagram settings (frames h) (frames h + 1) (time_of (tick_numbered ticks tick)) lone.tick.idr ∷ []) (k - 1) (omega (arith, count))
+          ∙ slice_get-append_left (video_stream settings ticks h) (lone_datagram settings (frames h) (frames h + 1) (time_of (tick_numbered ticks tick)) lone.tick.idr ∷ []) (k - 1) (omega (arith, count))
           ∙ frame.went_out
           ∙ ap (λ (n : ℕ). Some (datagram_by settings ticks k n (unit_of ticks h k))) (sym (tick_of-before h tick kind reference k other))
           ∙ ap (λ (u : List ℕ). Some (datagram_by settings ticks k (tick_of (Sent tick kind reference ∷ h) k) u)) (sym unit_is);

@@ -1,8 +1,7 @@
 -- A history's audio: the units that its turns put, and their datagrams.
 use Rattle.std.specs.Prelude.{ℕ, zero, suc, ◌-◌, ◌*◌, ◌/◌, ◌%◌, true, false, List, [], ◌∷◌, ◌++◌, length, take, drop, ◌==◌, if◌then◌else◌}
 use Rattle.std.specs.List.{flat_map, range_with_len}
-use Rattle.gs_rs.specs.declared.shape.Shape.{Shape}
-use Rattle.gs_rs.specs.declared.shape.Form.TheVariants.{Audio}
+use Rattle.gs_rs.specs.Shape.{audio_code}
 use Rattle.gs_rtp.specs.Stream.{StreamSettings}
 use Rattle.gs_rtp.specs.Audio.{audio_header, block_units}
 use Rattle.gs_tape.specs.Tick.{Tick}
@@ -10,9 +9,6 @@ use Rattle.gs_refs.specs.declared.entry.Entry.{Entry}
 use Rattle.gs_refs.specs.declared.entry.Entry.TheVariants.{Sent, Invalid, IdrAsked, Ended}
 use Rattle.gs_refs.specs.History.{frames, last_tick}
 use Rattle.gs_frames.specs.Datagrams.{parity_shard}
-
-abbrev pub audio_code : Shape
-audio_code = record { «data» = 4; parity = 2; form = Audio }
 
 -- the audio units of the ticks above one number up to another
 abbrev pub audio_between : List Tick → ℕ → ℕ → List (List ℕ)

@@ -2,3 +2,4 @@ pub mod Video
 pub mod Audio
 pub mod Paired
 pub mod StreamLaws
+pub mod HandedLaws

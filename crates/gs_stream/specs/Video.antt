@@ -35,6 +35,14 @@ unit_of ticks (Invalid first last ∷ h) f = unit_of ticks h f
 unit_of ticks (IdrAsked ∷ h) f = unit_of ticks h f
 unit_of ticks (Ended first last ∷ h) f = unit_of ticks h f
 
+-- the kind of frame f, 0 where it wasn't sent
+abbrev pub kind_of : List Entry → ℕ → ℕ
+kind_of [] f = 0
+kind_of (Sent tick kind reference ∷ h) f = if f == frames h + 1 then kind else kind_of h f
+kind_of (Invalid first last ∷ h) f = kind_of h f
+kind_of (IdrAsked ∷ h) f = kind_of h f
+kind_of (Ended first last ∷ h) f = kind_of h f
+
 -- the frame that frame f refers to, 0 where it refers to none
 abbrev pub reference_of : List Entry → ℕ → ℕ
 reference_of [] f = 0

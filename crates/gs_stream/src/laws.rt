@@ -4,6 +4,7 @@ ghost use Rattle.std.specs.Prelude.{List};
 ghost use Rattle.gs_rtp.specs.Stream.{StreamSettings};
 ghost use Rattle.gs_tape.specs.Tick.{Tick};
 ghost use Rattle.gs_stream.specs.Audio.{audio_stream, audio_units};
+ghost use Rattle.gs_stream.specs.HandedLaws.{HandedFramesWereSent, FramesThatCameAreComplete, ReEntryFramesThatCameAreHanded};
 ghost use Rattle.gs_stream.specs.Paired.{invalid_ranges};
 ghost use Rattle.gs_stream.specs.StreamLaws.{OnlyGrows, LoneFramesAreADatagramEach};
 ghost use Rattle.gs_stream.specs.Video.{video_stream};
@@ -21,4 +22,18 @@ pub fn streams_only_grow()
 /// datagrams went out as frames, and the k-th is that of frame k.
 pub fn lone_streams()
     ensures { LoneFramesAreADatagramEach }
+{}
+
+/// A law: however the datagrams of a history that a host may have were lost, repeated or reordered, each
+/// frame that its client is handed was sent, with its kind and, byte for byte, its captured unit.
+pub fn handed_frames_were_sent()
+    ensures { HandedFramesWereSent }
+{}
+
+/// Laws: whichever datagrams of a history were lost and in whatever order the others came, a frame of whose
+/// blocks enough distinct datagrams came before any of a greater frame is complete from then on and holds what
+/// was sent; and where it is a re-entry frame, it is handed.
+pub fn frames_that_came_are_complete()
+    ensures complete { FramesThatCameAreComplete }
+    ensures handed { ReEntryFramesThatCameAreHanded }
 {}

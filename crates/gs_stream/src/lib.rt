@@ -4,8 +4,13 @@
 //! (`video_stream`), the unit and the reference of each frame (`unit_of`, `reference_of`), all audio
 //! datagrams (`audio_stream`), and which pairs of a history and a list of what came can stand together
 //! (`IsPaired`). The crate's functions have no body: each is a law about them, which its contract states.
+//! By one of them (`handed_frames_were_sent`) a client is handed only frames that were sent, however their
+//! datagrams came. By another (`frames_that_came_are_complete`) a frame of whose blocks enough datagrams came
+//! before any of a greater frame is complete from then on.
 #![tactic(auto)]
 
 mod laws;
 
-pub use laws::{lone_streams, streams_only_grow};
+pub use laws::{
+    frames_that_came_are_complete, handed_frames_were_sent, lone_streams, streams_only_grow,
+};

@@ -1,0 +1,187 @@
+-- Each datagram of a host's history is of one frame, and what is received of it is among what is received of that
+-- frame.
+use Rattle.std.proofs.Common.{◌≡◌, ◌≤◌, ◌+◌, ◌-◌, ◌*◌, ℕ, suc, Bool, List, [], ◌∷◌, length, drop, map, Option, Some, None, refl, sym, ap, subst, arith}
+use Rattle.std.specs.Prelude.{if◌then◌else◌}
+use Rattle.std.specs.List.{All, Contains, filter_map, cons_option}
+use Rattle.std.proofs.lemmas.Bool.{eq-eqb, ne_eqb}
+use Rattle.std.proofs.lemmas.List.Elements.{All-nil, All-cons, All-head, All-tail, All-append, All-weaker, All-contains, All-contains_itself}
+use Rattle.gs_rtp.specs.Stream.{StreamSettings}
+use Rattle.gs_tape.specs.Tick.{Tick}
+use Rattle.gs_refs.specs.declared.entry.Entry.{Entry}
+use Rattle.gs_refs.specs.declared.entry.Entry.TheVariants.{Sent, Invalid, IdrAsked, Ended}
+use Rattle.gs_refs.specs.History.{frames, tick_of}
+use Rattle.gs_frames.specs.Image.{frame_image}
+use Rattle.gs_frames.specs.Plan.{BlockPlan}
+use Rattle.gs_frames.specs.Datagrams.{payload_of, Place, block_shards, plan_of, frame_datagrams}
+use Rattle.gs_frames.specs.Received.{Received, received, taken}
+use Rattle.gs_frames.specs.FrameLaws.{shard_received, shards_received, blocks_received, frame_received}
+use Rattle.gs_frames.proofs.FramesReceived.{frame_is_received}
+use Rattle.gs_stream.specs.Video.{tick_numbered, time_of, sent_unit, unit_of, kind_of, sent_datagrams, video_stream}
+use Rattle.gs_frames.specs.CompleteLaws.{ComesFrom}
+use Rattle.gs_stream.specs.HandedLaws.{IsHostHistory}
+use Rattle.gs_stream.proofs.FrameStreams.{count_before, stream_of, received_of, IsOfSentFrame, IsReceivedOfSentFrame}
+use Rattle.gs_stream.proofs.SentFrames.{frame_is_sent}
+
+-- ---- lists
+
+-- where a function answers all of a list's members by the members of another, each by one of them
+contained_answers : {X Y : Type 0} (g : X → Option Y) (xs : List X) (ys : List Y) → map g xs ≡ map (λ y. Some y) ys
+    → All (λ x. (y : Y) × (g x ≡ Some y) × Contains ys y) xs
+contained_answers {X} {Y} g [] ys same = All-nil (λ x. (y : Y) × (g x ≡ Some y) × Contains ys y)
+contained_answers g (x ∷ xs) [] same = absurd (cc same)
+contained_answers {X} {Y} g (x ∷ xs) (y ∷ ys) same =
+    let first : g x ≡ Some y = cc in
+    let rest : map g xs ≡ map (λ y. Some y) ys = cc in
+    let Among : X → Type 0 = λ x'. (y' : Y) × (g x' ≡ Some y') × Contains (y ∷ ys) y' in
+    All-cons Among x xs (y, first, (0, omega arith, refl))
+    (All-weaker (λ x'. (y' : Y) × (g x' ≡ Some y') × Contains ys y') Among (λ x' a. (a.0, a.1, (suc a.2.0, omega (arith, a.2.1), a.2.2))) xs
+    (contained_answers g xs ys rest))
+
+-- what holds of the answer at each member holds of all answers
+All-filter_map : {X Y : Type 0} (g : X → Option Y) (P : Y → Type 0) (xs : List X) → All (λ x. (y : Y) → g x ≡ Some y → P y) xs → All P (filter_map g xs)
+All-filter_map g P [] all = All-nil P
+All-filter_map {X} {Y} g P (x ∷ xs) all =
+    onto (g x) (All-head (λ x'. (y : Y) → g x' ≡ Some y → P y) x xs all) (All-filter_map g P xs (All-tail (λ x'. (y : Y) → g x' ≡ Some y → P y) x xs all))
+  where
+    onto : (o : Option Y) → ((y : Y) → o ≡ Some y → P y) → All P (filter_map g xs) → All P (cons_option o (filter_map g xs))
+    onto None h rest = rest
+    onto (Some y) h rest = All-cons P y (filter_map g xs) (h y refl) rest
+
+-- ---- the datagrams
+
+-- the frame that went out last
+stream_of-last : (settings : StreamSettings) (ticks : List Tick) (h : List Entry) (tick kind reference : ℕ)
+    → stream_of settings ticks (Sent tick kind reference ∷ h) (frames h + 1) ≡ sent_datagrams settings ticks h (length (video_stream settings ticks h)) tick kind reference
+stream_of-last settings ticks h tick kind reference =
+    let f = frames h + 1 in
+    ap (λ (b : Bool). frame_datagrams settings (if b then length (video_stream settings ticks h) else count_before settings ticks h f) f (if b then kind else kind_of h f)
+    (time_of (tick_numbered ticks (if b then tick else tick_of h f))) (if b then sent_unit (tick_numbered ticks tick) kind (tick_of h reference) else unit_of ticks h f))
+    (eq-eqb f f refl)
+
+-- the frames before it
+stream_of-before : (settings : StreamSettings) (ticks : List Tick) (h : List Entry) (tick kind reference f : ℕ) → f ≤ frames h
+    → stream_of settings ticks (Sent tick kind reference ∷ h) f ≡ stream_of settings ticks h f
+stream_of-before settings ticks h tick kind reference f before =
+    ap (λ (b : Bool). frame_datagrams settings (if b then length (video_stream settings ticks h) else count_before settings ticks h f) f (if b then kind else kind_of h f)
+    (time_of (tick_numbered ticks (if b then tick else tick_of h f))) (if b then sent_unit (tick_numbered ticks tick) kind (tick_of h reference) else unit_of ticks h f))
+    (ne_eqb f (frames h + 1) (λ e. absurd (omega (arith, e))))
+
+-- a datagram of a frame stays one when one more frame goes out
+of_frame-before : (settings : StreamSettings) (ticks : List Tick) (h : List Entry) (tick kind reference : ℕ) (datagram : List ℕ)
+    → IsOfSentFrame settings ticks h datagram → IsOfSentFrame settings ticks (Sent tick kind reference ∷ h) datagram
+of_frame-before settings ticks h tick kind reference datagram is =
+    let greatest : is.frame ≤ frames h = is.greatest in
+    let Among : List (List ℕ) → Type 0 = λ all. Contains all datagram in
+    record {
+      frame = is.frame;
+      least = is.least;
+      greatest = omega arith;
+      among = subst Among (sym (stream_of-before settings ticks h tick kind reference is.frame greatest)) is.among;
+    }
+
+-- a datagram of the frame that went out last
+of_frame-last : (settings : StreamSettings) (ticks : List Tick) (h : List Entry) (tick kind reference : ℕ) (datagram : List ℕ)
+    → Contains (sent_datagrams settings ticks h (length (video_stream settings ticks h)) tick kind reference) datagram
+    → IsOfSentFrame settings ticks (Sent tick kind reference ∷ h) datagram
+of_frame-last settings ticks h tick kind reference datagram among =
+    let Among : List (List ℕ) → Type 0 = λ all. Contains all datagram in
+    record {
+      frame = frames h + 1;
+      least = omega arith;
+      greatest = omega arith;
+      among = subst Among (sym (stream_of-last settings ticks h tick kind reference)) among;
+    }
+
+-- each datagram of a history is of a frame that was sent
+pub datagrams_are_of_frames : (settings : StreamSettings) (ticks : List Tick) (h : List Entry) → All (IsOfSentFrame settings ticks h) (video_stream settings ticks h)
+unfolding video_stream
+datagrams_are_of_frames settings ticks [] = All-nil (IsOfSentFrame settings ticks [])
+datagrams_are_of_frames settings ticks (Sent tick kind reference ∷ h) =
+    let now = Sent tick kind reference ∷ h in
+    let before = video_stream settings ticks h in
+    let more = sent_datagrams settings ticks h (length before) tick kind reference in
+    All-append (IsOfSentFrame settings ticks now) before more
+    (All-weaker (IsOfSentFrame settings ticks h) (IsOfSentFrame settings ticks now) (of_frame-before settings ticks h tick kind reference) before (datagrams_are_of_frames settings ticks h))
+    (All-weaker (Contains more) (IsOfSentFrame settings ticks now) (of_frame-last settings ticks h tick kind reference) more (All-contains_itself more))
+datagrams_are_of_frames settings ticks (Invalid first last ∷ h) =
+    All-weaker (IsOfSentFrame settings ticks h) (IsOfSentFrame settings ticks (Invalid first last ∷ h))
+    (λ d is. record { frame = is.frame; least = is.least; greatest = is.greatest; among = is.among }) (video_stream settings ticks h) (datagrams_are_of_frames settings ticks h)
+datagrams_are_of_frames settings ticks (IdrAsked ∷ h) =
+    All-weaker (IsOfSentFrame settings ticks h) (IsOfSentFrame settings ticks (IdrAsked ∷ h))
+    (λ d is. record { frame = is.frame; least = is.least; greatest = is.greatest; among = is.among }) (video_stream settings ticks h) (datagrams_are_of_frames settings ticks h)
+datagrams_are_of_frames settings ticks (Ended first last ∷ h) =
+    All-weaker (IsOfSentFrame settings ticks h) (IsOfSentFrame settings ticks (Ended first last ∷ h))
+    (λ d is. record { frame = is.frame; least = is.least; greatest = is.greatest; among = is.among }) (video_stream settings ticks h) (datagrams_are_of_frames settings ticks h)
+
+-- ---- what is received of them
+
+-- each shard of a block has the frame's number
+shards_say_frame : (settings : StreamSettings) (place : Place) (plan : BlockPlan) (count index : ℕ) (shards : List (List ℕ))
+    → All (λ r. r.head.frame ≡ place.frame) (shards_received settings place plan count index shards)
+shards_say_frame settings place plan count index [] = All-nil (λ (r : Received). r.head.frame ≡ place.frame)
+shards_say_frame settings place plan count index (shard ∷ shards) =
+    All-cons (λ (r : Received). r.head.frame ≡ place.frame) (shard_received settings place plan count index shard) (shards_received settings place plan (count + 1) (index + 1) shards)
+    refl (shards_say_frame settings place plan (count + 1) (index + 1) shards)
+
+-- of block after block
+blocks_say_frame : (settings : StreamSettings) (frame time last block count : ℕ) (plans : List BlockPlan) (image : List ℕ)
+    → All (λ r. r.head.frame ≡ frame) (blocks_received settings frame time last block count plans image)
+blocks_say_frame settings frame time last block count [] image = All-nil (λ (r : Received). r.head.frame ≡ frame)
+blocks_say_frame settings frame time last block count (plan ∷ plans) image =
+    let place : Place = record { frame = frame; time = time; block = block; last_block = last } in
+    let more = count + plan.data_shards + plan.parity_shards in
+    let behind = drop (plan.data_shards * payload_of settings) image in
+    All-append (λ (r : Received). r.head.frame ≡ frame) (shards_received settings place plan count 0 (block_shards settings plan count image))
+    (blocks_received settings frame time last (block + 1) more plans behind)
+    (shards_say_frame settings place plan count 0 (block_shards settings plan count image))
+    (blocks_say_frame settings frame time last (block + 1) more plans behind)
+
+-- of a frame
+pub received_say_frame : (settings : StreamSettings) (count frame kind time : ℕ) (unit : List ℕ)
+    → All (λ r. r.head.frame ≡ frame) (frame_received settings count frame kind time unit)
+unfolding frame_received
+received_say_frame settings count frame kind time unit =
+    blocks_say_frame settings frame time (length (plan_of settings unit) - 1) 0 count (plan_of settings unit) (frame_image kind unit (payload_of settings))
+
+-- what is received of a datagram of a frame
+received_of_frame : (settings : StreamSettings) (ticks : List Tick) (h : List Entry) (datagram : List ℕ) (r : Received) → IsHostHistory settings ticks h
+    → IsOfSentFrame settings ticks h datagram → received settings datagram ≡ Some r → IsReceivedOfSentFrame settings ticks h r
+received_of_frame settings ticks h datagram r host is came =
+    let f = is.frame in
+    let count = count_before settings ticks h f in
+    let time = time_of (tick_numbered ticks (tick_of h f)) in
+    let parts = received_of settings ticks h f in
+    let Answered : List ℕ → Type 0 = λ d. (y : Received) × (received settings d ≡ Some y) × Contains parts y in
+    let answer =
+    All-contains Answered (stream_of settings ticks h f) datagram
+    (contained_answers (received settings) (stream_of settings ticks h f) parts
+    (frame_is_received settings count f (kind_of h f) time (unit_of ticks h f) (frame_is_sent settings ticks h f host is.least is.greatest)))
+    is.among in
+    let same : answer.0 ≡ r = cc (answer.1, came) in
+    let Among : Received → Type 0 = Contains parts in
+    let among : Contains parts r = subst Among same answer.2 in
+    let says : r.head.frame ≡ f =
+    All-contains (λ (y : Received). y.head.frame ≡ f) parts r (received_say_frame settings count f (kind_of h f) time (unit_of ticks h f)) among in
+    let Said : ℕ → Type 0 = λ n. (1 ≤ n) × (n ≤ frames h) × Contains (received_of settings ticks h n) r in
+    let said = subst Said (sym says) (is.least, is.greatest, among) in
+    record { least = said.0; greatest = said.1; among = said.2 }
+
+-- Whatever datagrams of a host's history came, in whatever order and how often, all that is taken of them is
+-- of frames that were sent.
+pub taken_were_sent : (settings : StreamSettings) (ticks : List Tick) (h : List Entry) (came : List (List ℕ)) → IsHostHistory settings ticks h
+    → All (Contains (video_stream settings ticks h)) came → All (IsReceivedOfSentFrame settings ticks h) (taken settings came)
+taken_were_sent settings ticks h came host sent =
+    let Answered : List ℕ → Type 0 = λ d. (r : Received) → received settings d ≡ Some r → IsReceivedOfSentFrame settings ticks h r in
+    All-filter_map (received settings) (IsReceivedOfSentFrame settings ticks h) came
+    (All-weaker (Contains (video_stream settings ticks h)) Answered
+    (λ d among r e.
+    received_of_frame settings ticks h d r host
+    (All-contains (IsOfSentFrame settings ticks h) (video_stream settings ticks h) d (datagrams_are_of_frames settings ticks h) among) e)
+    came sent)
+
+-- So what is taken of one frame is among what is received of all of its datagrams.
+pub frames_come_from : (settings : StreamSettings) (ticks : List Tick) (h : List Entry) (f : ℕ) (rs : List Received)
+    → All (IsReceivedOfSentFrame settings ticks h) rs → ComesFrom (received_of settings ticks h f) f rs
+frames_come_from settings ticks h f rs sent =
+    All-weaker (IsReceivedOfSentFrame settings ticks h) (λ r. r.head.frame ≡ f → Contains (received_of settings ticks h f) r)
+    (λ r is e. let Among : ℕ → Type 0 = λ n. Contains (received_of settings ticks h n) r in subst Among e is.among) rs sent
