@@ -1,0 +1,5 @@
+pub mod Valid
+pub mod Asked
+pub mod Descent
+pub mod HandedLists
+pub mod Joined
