@@ -30,6 +30,14 @@ use Rattle.gs_trial.specs.Standing.{IsBare, IsIdrEntry, HostStandsFor, tick_seen
 one_part : (packet unit : ℕ) → 16 + (8 + unit) ≤ packet → IsParted (header_length + unit) (packet - 16)
 one_part packet unit room = record { whole = 0; last = header_length + unit; last_least = omega arith; last_greatest = omega arith; sum = omega arith }
 
+zeros_behind : (n size left : ℕ) (zeros : List ℕ) → zeros ≡ replicate size 0 → size - n ≡ left → drop n zeros ≡ replicate left 0
+zeros_behind n size left zeros are e = ap (drop n) are ∙ drop-replicate n size 0 ∙ ap (λ (k : ℕ). replicate k 0) e
+
+-- the parts of a datagram, put together in two orders
+joined_parts : (header unit front rest : List ℕ) (a b : ℕ) → front ≡ rest → a ≡ b
+    → header ++ (image_header 2 a ++ (unit ++ front)) ≡ header ++ (image_header 2 b ++ unit ++ rest)
+joined_parts header unit front rest a b e f = rw (e, f) (ap (λ (l : List ℕ). header ++ l) (sym (append_assoc (image_header 2 b) unit rest)))
+
 -- what is written over zeros
 pub datagram_written : (packet : ℕ) (header unit zeros : List ℕ) → 16 + (8 + length unit) ≤ packet → zeros ≡ replicate (packet + 16) 0
     → header ++ (image_header 2 (8 + length unit) ++ (unit ++ drop (40 + length unit) zeros)) ≡ header ++ frame_image 2 unit (packet - 16)
@@ -41,10 +49,8 @@ datagram_written packet header unit zeros room zeros_are =
     let whole : packets (length unit) (packet - 16) * (packet - 16) ≡ packet - 16 = ap (λ (n : ℕ). n * (packet - 16)) one ∙ one-mul (packet - 16) in
     let count : packet + 16 - (40 + length unit) ≡ packets (length unit) (packet - 16) * (packet - 16) - (header_length + length unit) = omega (arith, whole) in
     let rest : drop (40 + length unit) zeros ≡ replicate (packets (length unit) (packet - 16) * (packet - 16) - (header_length + length unit)) 0 =
-    ap (drop (40 + length unit)) zeros_are ∙ drop-replicate (40 + length unit) (packet + 16) 0 ∙ ap (λ (n : ℕ). replicate n 0) count in
-    ap (λ (l : List ℕ). header ++ (image_header 2 (8 + length unit) ++ (unit ++ l))) rest
-    ∙ ap (λ (n : ℕ). header ++ (image_header 2 n ++ (unit ++ replicate (packets (length unit) (packet - 16) * (packet - 16) - (header_length + length unit)) 0))) (sym last)
-    ∙ ap (λ (l : List ℕ). header ++ l) (sym (append_assoc (image_header 2 (last_length (length unit) (packet - 16))) unit (replicate (packets (length unit) (packet - 16) * (packet - 16) - (header_length + length unit)) 0)))
+    zeros_behind (40 + length unit) (packet + 16) _ zeros zeros_are count in
+    joined_parts header unit _ _ _ _ rest (sym last)
 
 -- ---- one more frame
 

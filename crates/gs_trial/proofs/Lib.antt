@@ -1,5 +1,6 @@
 mod Examples
 pub mod Line
+pub mod BusyLines
 pub mod Readings
 pub mod Ticks
 pub mod TickList
@@ -10,8 +11,8 @@ pub mod Turns
 pub mod Sessions
 pub mod OneSession
 pub mod Counted
-pub mod LoneStates
-pub mod BuiltRuns
+pub mod Durations
+pub mod PairedRuns
 pub mod Trials
 pub mod Plans
 pub mod Mains

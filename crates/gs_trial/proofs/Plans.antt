@@ -3,28 +3,29 @@ use Rattle.std.proofs.Common.{ℕ, ◌≡◌, ◌⊎◌, ◌-◌, ◌<◌, ◌�
 use Rattle.std.specs.Prelude.{decimal}
 use Rattle.std.proofs.lemmas.Fmt.{decimal_injective}
 use Rattle.std.proofs.lemmas.List.{take_rest, append_assoc}
-use Rattle.std.proofs.lemmas.Bool.{eqb-true, leb-true}
+use Rattle.std.proofs.lemmas.Bool.{and_parts, eqb-true, leb-true}
 use Rattle.std.specs.List.{AllByRecursion, list_all}
 use Rattle.gs_rtp.specs.declared.settings.Settings.{Settings}
 use Rattle.gs_rtp.specs.Stream.{StreamSettings}
 use Rattle.gs_trial.specs.declared.step.Step.{Step}
 use Rattle.gs_trial.specs.declared.step.Step.TheVariants as step
 use Rattle.gs_trial.specs.declared.tape.SmallTick.{SmallTick}
-use Rattle.gs_trial.specs.Schedule.{IsStep, IsSchedule, line_of}
+use Rattle.gs_trial.specs.Schedule.{IsStep, IsBusySchedule, line_of}
 use Rattle.gs_trial.specs.Forms.{is_small_step, is_bare_session, are_small_steps, are_taken, IsBuilt}
 use Rattle.gs_trial.specs.Run.{Tape, State, start, is_taken, after, step_text, text_from, tape_of}
 use Rattle.gs_trial.specs.Output.{done_line}
 use Rattle.gs_trial.specs.Standing.{IsBare, MayRun, MayRunPlan, opens, first_settings, fresh_state, seen, session_text}
 use Rattle.gs_trial.proofs.Line.{split_unique, decimal_no_space}
-use Rattle.gs_trial.proofs.Trials.{both_true, first_text, last_text}
+use Rattle.gs_trial.proofs.BusyLines.{busy_lines}
+use Rattle.gs_trial.proofs.Trials.{first_text, last_text}
 
 -- ---- the first step
 
 zero_counts : (q m : ℕ) (a b : Bool) → (a && b && q == 0 && m == 0) ≡ true → (a ≡ true) × (b ≡ true) × (q ≡ 0) × (m ≡ 0)
 zero_counts q m a b e =
-    let x = both_true (a && b && q == 0) (m == 0) e in
-    let y = both_true (a && b) (q == 0) x.0 in
-    let z = both_true a b y.0 in
+    let x = and_parts (a && b && q == 0) (m == 0) e in
+    let y = and_parts (a && b) (q == 0) x.0 in
+    let z = and_parts a b y.0 in
     (z.0, z.1, eqb-true q 0 y.1, eqb-true m 0 x.1)
 
 -- a step that opens a session is a bare one that the run takes first
@@ -39,11 +40,11 @@ opens_taken tape (step.Video n k) e = absurd cc
 -- and the other way round
 pub taken_opens : (tape : Tape) (s : Step) → is_bare_session s ≡ true → is_taken tape start s ≡ true → opens s ≡ true
 taken_opens tape (step.Session p q m) b t =
-    let z = both_true (q == 0) (m == 0) b in
-    let u = both_true (true && nat_le 1024 p && nat_le p 1440 && nat_le q 100) (nat_le m 2) t in
-    let v = both_true (true && nat_le 1024 p && nat_le p 1440) (nat_le q 100) u.0 in
-    let w = both_true (true && nat_le 1024 p) (nat_le p 1440) v.0 in
-    let x = both_true true (nat_le 1024 p) w.0 in
+    let z = and_parts (q == 0) (m == 0) b in
+    let u = and_parts (true && nat_le 1024 p && nat_le p 1440 && nat_le q 100) (nat_le m 2) t in
+    let v = and_parts (true && nat_le 1024 p && nat_le p 1440) (nat_le q 100) u.0 in
+    let w = and_parts (true && nat_le 1024 p) (nat_le p 1440) v.0 in
+    let x = and_parts true (nat_le 1024 p) w.0 in
     rw (x.1, w.1, z.0, z.1) refl
 taken_opens tape step.Cap b t = absurd cc
 taken_opens tape (step.Send n) b t = absurd cc
@@ -143,8 +144,8 @@ unfolding are_taken
 may_run d ticks s rest steps settings plan e o same =
     let small : are_small_steps (s ∷ rest) ≡ true = ap are_small_steps (sym e) ∙ plan.small in
     let taken : are_taken (seen d ticks) start (s ∷ rest) ≡ true = ap (are_taken (seen d ticks) start) (sym e) ∙ plan.taken in
-    let small_rest = (both_true (is_bare_session s) (list_all is_small_step rest) small).1 in
-    let taken_rest = (both_true (is_taken (seen d ticks) start s) (are_taken (seen d ticks) (after (seen d ticks) start s) rest) taken).1 in
+    let small_rest = (and_parts (is_bare_session s) (list_all is_small_step rest) small).1 in
+    let taken_rest = (and_parts (is_taken (seen d ticks) start s) (are_taken (seen d ticks) (after (seen d ticks) start s) rest) taken).1 in
     let fresh : are_taken (seen d ticks) (fresh_state (first_settings d s)) rest ≡ true = ap (λ (st : State). are_taken (seen d ticks) st rest) (sym (after_opens d ticks s o)) ∙ taken_rest in
     let at : are_taken (seen (first_settings d s).duration ticks) (fresh_state (first_settings d s)) rest ≡ true =
     ap (λ (n : ℕ). are_taken (seen n ticks) (fresh_state (first_settings d s)) rest) (duration_of_first d s o) ∙ fresh in
@@ -230,10 +231,11 @@ steps_same (s ∷ ss) (t ∷ ts) h k e =
     ap (λ (x : Step). x ∷ ss) (line_same s t h.0 k.0 a) ∙ ap (λ (xs : List Step). t ∷ xs) (steps_same ss ts h.1 k.1 b)
 
 -- what the run doesn't take isn't run
-pub not_built : (bytes schedule : List ℕ) (tape : Tape) (steps : List Step) (r : Bool) → tape_of bytes ≡ tape → IsSchedule schedule steps
+pub not_built : (bytes schedule : List ℕ) (tape : Tape) (steps : List Step) (r : Bool) → tape_of bytes ≡ tape → IsBusySchedule schedule steps
     → r ≡ (are_small_steps steps && are_taken tape start steps) → r ≡ false → (others : List Step) → IsBuilt bytes schedule others → ⊥
 not_built bytes schedule tape steps r same lines is off others built =
-    let one : others ≡ steps = steps_same others steps built.steps_taken.lines.numbers lines.numbers (sym built.steps_taken.lines.lines ∙ lines.lines) in
+    let one : others ≡ steps = steps_same others steps built.steps_taken.lines.schedule.numbers lines.schedule.numbers
+    (sym (busy_lines schedule others built.steps_taken.lines) ∙ busy_lines schedule steps lines) in
     let small : are_small_steps steps ≡ true = ap are_small_steps (sym one) ∙ built.steps_taken.small in
     let taken : are_taken tape start steps ≡ true = ap (λ (t : Tape). are_taken t start steps) (sym same) ∙ ap (are_taken (tape_of bytes) start) (sym one) ∙ built.steps_taken.taken in
     let on : (are_small_steps steps && are_taken tape start steps) ≡ true = rw (small, taken) refl in

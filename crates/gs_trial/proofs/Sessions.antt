@@ -1,7 +1,7 @@
 -- What the steps of a run do to its only session.
-use Rattle.std.proofs.Common.{◌≡◌, ◌<◌, ◌≤◌, ◌+◌, ◌-◌, ℕ, suc, Bool, true, false, List, [], ◌∷◌, ◌++◌, length, map, drop, Option, Some, refl, sym, ap, subst, ◌∙◌, arith, vec_len, get_or}
+use Rattle.std.proofs.Common.{◌≡◌, ◌<◌, ◌≤◌, ◌+◌, ◌-◌, ℕ, Bool, true, false, List, [], ◌∷◌, ◌++◌, length, map, drop, Option, Some, refl, sym, ap, subst, ◌∙◌, arith, vec_len, get_or}
 use Rattle.std.specs.Prelude.{◌&&◌, nat_lt, nat_le}
-use Rattle.std.specs.List.{All, AllByRecursion, slice_get, flat_map}
+use Rattle.std.specs.List.{All, slice_get, flat_map}
 use Rattle.std.proofs.lemmas.Bool.{and_parts, leb-true, ltb-true, ltb-false}
 use Rattle.std.proofs.lemmas.List.{append-nil, append_assoc, drop_at, drop_all}
 use Rattle.std.proofs.lemmas.Option.{same_Some, slice_get_read}
@@ -24,10 +24,10 @@ use Rattle.gs_trial.specs.Output.{sent_line, ask_line, hand_lines}
 use Rattle.gs_trial.specs.Run as Run
 use Rattle.gs_trial.specs.Run.{Tape, State, is_taken, after, step_text, turn_of, with_entry, with_datagram, stream_of, is_nameable, entry_lines, client_lines, gained}
 use Rattle.gs_trial.specs.Forms.{most_input}
-use Rattle.gs_trial.specs.Trial.{IsCaptured}
 use Rattle.gs_trial.specs.Standing.{tick_seen, ticks_seen, IsBare, IsDatagramOf, HostStandsFor, ClientStandsFor, IsPassed, IsHanded, StandsFor, behind_turn, Sends, IsActed, fresh_state}
+use Rattle.gs_trial.proofs.TickList.{length-ticks_seen}
 use Rattle.gs_trial.proofs.Hosts.{are_lone}
-use Rattle.gs_trial.proofs.Turns.{has_not_ended, turn-none, turn-sent, seen_numbered, unit_of-kept}
+use Rattle.gs_trial.proofs.Turns.{has_not_ended, turn-none, turn-sent, seen_numbered}
 
 -- ---- the state of one session
 
@@ -87,14 +87,9 @@ fresh_stands ticks session tape settings seen small few captured bare host clien
       bare = bare;
       host = host tape.ticks;
       client = client settings;
-      hands = tt;
     }
 
 -- ---- the capture gains a tick
-
-length_seen : (first : ℕ) (ticks : List SmallTick) → length (ticks_seen first ticks) ≡ length ticks
-length_seen first [] = refl
-length_seen first (t ∷ ticks) = ap (λ (n : ℕ). suc n) (length_seen (first + 1) ticks)
 
 pub cap_acted : (ticks : List SmallTick) (old new : Session) (tape : Tape) (state : State) (text : List ℕ) → StandsFor ticks old tape state → is_taken tape state step.Cap ≡ true
     → new.captured ≡ old.captured + 1 → new.host ≡ old.host → new.client ≡ old.client → IsActed ticks new tape state step.Cap text text
@@ -109,13 +104,12 @@ cap_acted ticks old new tape state text s taken captured host client =
         small = s.small;
         few = s.few;
         captured = captured ∙ ap (λ (n : ℕ). n + 1) s.captured;
-        captured_within = omega (arith, more, ap length s.ticks_are, length_seen 1 ticks);
+        captured_within = omega (arith, more, ap length s.ticks_are, length-ticks_seen 1 ticks);
         only = s.only;
         is_only = s.is_only;
         bare = s.bare;
         host = subst H (sym host) s.host;
         client = subst C (sym client) s.client;
-        hands = s.hands;
       };
       text = sym (append-nil text);
     }
@@ -144,23 +138,9 @@ not_sent_acted ticks old new tape state text s nothing captured client host =
             bare = s.bare;
             host = host;
             client = subst C (sym client) s.client;
-            hands = s.hands;
           });
       text = sym (ap (λ (l : List ℕ). text ++ l) (text-send tape state s.only s.is_only ∙ ap (entry_lines 1 s.only) none) ∙ append-nil text);
     }
-
-captured-kept : (tape : Tape) (only : Run.Session) (tick kind reference : ℕ) (hs : List Handed) → AllByRecursion (IsCaptured tape only) hs
-    → AllByRecursion (IsCaptured tape (with_entry only (Some (Sent tick kind reference)))) hs
-captured-kept tape only tick kind reference [] all = tt
-captured-kept tape only tick kind reference (h ∷ hs) all =
-    let most : h.frame ≤ frames only.history = all.0.sent_greatest in (
-      record {
-        sent_least = all.0.sent_least;
-        sent_greatest = omega arith;
-        unit = all.0.unit ∙ sym (unit_of-kept tape.ticks only.history tick kind reference h.frame all.0.sent_greatest);
-      },
-      captured-kept tape only tick kind reference hs all.1,
-    )
 
 -- the newest tick went out
 pub sent_acted : (ticks : List SmallTick) (old new : Session) (tape : Tape) (state : State) (tick : SmallTick) (text text' : List ℕ) → (s : StandsFor ticks old tape state)
@@ -189,7 +169,6 @@ sent_acted ticks old new tape state tick text text' s newer there captured clien
             bare = s.bare;
             host = host;
             client = subst C (sym client) s.client;
-            hands = captured-kept tape s.only state.captured 2 0 (handed s.only.settings s.only.came) s.hands;
           });
       text = text_is
           ∙ ap (λ (n : ℕ). text ++ sent_line 1 n 2 old.captured 0) host.count
@@ -235,8 +214,6 @@ one_sent {ticks} {tape} {only} {captured} {tick} {host} {sent} turn one =
 
 -- the datagram of a delivery that the run takes
 pub record IsDelivered (tape : Tape) (only : Run.Session) (k : ℕ) (datagram : List ℕ) : Type 0 where
-  pub sent_least : 1 ≤ k
-  pub sent_greatest : k ≤ frames only.history
   pub found : slice_get (stream_of tape only) (k - 1) ≡ Some datagram
   pub sent : IsDatagramOf only.settings k (unit_of tape.ticks only.history k) datagram
 
@@ -256,8 +233,6 @@ delivered ticks session tape state k datagram s taken kept =
     let few : vec_len session.host.datagrams ≤ session.host.last_tick = session.host.few in
     let last : session.host.last_tick ≤ 65536 = session.host.last_within in
     record {
-      sent_least = least;
-      sent_greatest = most;
       found = found;
       sent = record {
         frame_least = least;
@@ -275,16 +250,6 @@ gained-append {A} old new more e = ap (drop (length old)) e ∙ drop_at old more
 gained-none : {A : Type 0} (old new : List A) → new ≡ old → gained old new ≡ []
 gained-none {A} old new e = ap (drop (length old)) e ∙ drop_all (length old) old (omega arith)
 
-captured-given : (tape : Tape) (only : Run.Session) (datagram : List ℕ) (hs : List Handed) → AllByRecursion (IsCaptured tape only) hs
-    → AllByRecursion (IsCaptured tape (with_datagram only (Some datagram))) hs
-captured-given tape only datagram [] all = tt
-captured-given tape only datagram (h ∷ hs) all =
-    (record { sent_least = all.0.sent_least; sent_greatest = all.0.sent_greatest; unit = all.0.unit }, captured-given tape only datagram hs all.1)
-
-all-push : {X : Type 0} (P : X → Type 0) (xs : List X) (x : X) → AllByRecursion P xs → P x → AllByRecursion P (xs ++ x ∷ [])
-all-push P [] x all last = (last, tt)
-all-push P (y ∷ xs) x all last = (all.0, all-push P xs x all.1 last)
-
 -- nothing is told of it
 pub passed_acted : (ticks : List SmallTick) (old new : Session) (tape : Tape) (state : State) (k : ℕ) (text datagram : List ℕ) → (s : StandsFor ticks old tape state)
     → IsDelivered tape s.only k datagram → new.captured ≡ old.captured → new.host ≡ old.host
@@ -293,7 +258,6 @@ unfolding one_session
 passed_acted ticks old new tape state k text datagram s d captured host passed =
     let H : Host → Type 0 = λ h. HostStandsFor tape.ticks s.only.settings h s.only.history in
     let only = with_datagram s.only (Some datagram) in
-    let All : List Handed → Type 0 = AllByRecursion (IsCaptured tape only) in
     let asked = gained-none (asks s.only.settings s.only.came) (asks s.only.settings (datagram ∷ s.only.came)) passed.asked_after in
     let told = gained-none (handed s.only.settings s.only.came) (handed s.only.settings (datagram ∷ s.only.came)) passed.handed_after in
     record {
@@ -310,7 +274,6 @@ passed_acted ticks old new tape state k text datagram s d captured host passed =
             bare = s.bare;
             host = subst H (sym host) s.host;
             client = passed.stands;
-            hands = subst All (sym passed.handed_after) (captured-given tape s.only datagram (handed s.only.settings s.only.came) s.hands);
           });
       text = sym (ap (λ (l : List ℕ). text ++ l)
           (text-video tape state s.only k s.is_only
@@ -323,23 +286,20 @@ passed_acted ticks old new tape state k text datagram s d captured host passed =
 -- its frame is handed over
 pub handed_acted : (ticks : List SmallTick) (old new : Session) (tape : Tape) (state : State) (k : ℕ) (text text' text'' datagram : List ℕ) (frame : ℕ) (lost : List Range) (unit : List ℕ)
     → (s : StandsFor ticks old tape state) → IsDelivered tape s.only k datagram → new.captured ≡ old.captured → new.host ≡ old.host
-    → IsHanded s.only.settings new.client datagram s.only.came frame lost unit → frame ≡ k → unit ≡ unit_of tape.ticks s.only.history k
+    → IsHanded s.only.settings new.client datagram s.only.came frame lost unit
     → text' ≡ text ++ flat_map (ask_line 1) lost → text'' ≡ text' ++ hand_lines 1 (record { frame = frame; kind = 2; unit = unit })
     → IsActed ticks new tape state (step.Video 1 k) text text''
 unfolding one_session
-handed_acted ticks old new tape state k text text' text'' datagram frame lost unit s d captured host is_handed frame_is unit_is asked_text handed_text =
+handed_acted ticks old new tape state k text text' text'' datagram frame lost unit s d captured host is_handed asked_text handed_text =
     let H : Host → Type 0 = λ h. HostStandsFor tape.ticks s.only.settings h s.only.history in
     let only = with_datagram s.only (Some datagram) in
     let now : Handed = record { frame = frame; kind = 2; unit = unit } in
-    let All : List Handed → Type 0 = AllByRecursion (IsCaptured tape only) in
     let asked_before = asks s.only.settings s.only.came in
     let asked_now = asks s.only.settings (datagram ∷ s.only.came) in
     let handed_before = handed s.only.settings s.only.came in
     let handed_now = handed s.only.settings (datagram ∷ s.only.came) in
     let asked = gained-append asked_before asked_now lost is_handed.asked_after in
     let told = gained-append handed_before handed_now (now ∷ []) is_handed.handed_after in
-    let least : 1 ≤ k = d.sent_least in
-    let most : k ≤ frames s.only.history = d.sent_greatest in
     record {
       stands = stand_for (after tape state (step.Video 1 k)) state.captured only
           (after-video tape state s.only k s.is_only ∙ ap (λ (o : Option (List ℕ)). one_session state.captured (with_datagram s.only o)) d.found)
@@ -354,9 +314,6 @@ handed_acted ticks old new tape state k text text' text'' datagram frame lost un
             bare = s.bare;
             host = subst H (sym host) s.host;
             client = is_handed.stands;
-            hands = subst All (sym is_handed.handed_after)
-                (all-push (IsCaptured tape only) handed_before now (captured-given tape s.only datagram handed_before s.hands)
-                (record { sent_least = omega (arith, frame_is); sent_greatest = omega (arith, frame_is); unit = unit_is ∙ ap (unit_of tape.ticks s.only.history) (sym frame_is) }));
           });
       text = handed_text
           ∙ ap (λ (l : List ℕ). l ++ hand_lines 1 now) asked_text

@@ -9,7 +9,7 @@ use Rattle.gs_trial.specs.declared.tape.SmallTick.{SmallTick}
 use Rattle.gs_trial.specs.Forms.{IsSmallTick, IsSmallTape, most_small_unit, most_input}
 use Rattle.gs_trial.specs.Run.{tape_of}
 use Rattle.std.proofs.lemmas.List.Elements.{recursion_from_All}
-use Rattle.gs_trial.specs.Standing.{behind, tick_seen, ticks_seen, IsOtherHead, IsOtherTick, AreOtherTicks}
+use Rattle.gs_trial.specs.Standing.{known_before, tick_seen, ticks_seen, IsOtherHead, IsOtherTick, AreOtherTicks}
 
 -- ticks before what is read next
 abbrev pub before_rest : List Tick → Read → Read
@@ -27,8 +27,8 @@ ticks_seen-push n (s ∷ ts) t =
     ap (λ (us : List Tick). tick_seen n s ∷ us) (ticks_seen-push (n + 1) ts t ∙ ap (λ (k : ℕ). ticks_seen (n + 1) ts ++ tick_seen k t ∷ []) e)
 
 more : (s' size number time held : ℕ) (rest : List ℕ) (t : Tick) (held' : ℕ) (after : List ℕ) → number ≤ most_ticks
-    → tick_at size 0 (behind number time held) rest ≡ Ok (t, (held', after))
-    → ticks_at (suc s') size 0 (behind number time held) (0x54 ∷ rest) ≡ and_then t (ticks_at s' size 0 (behind (number + 1) t.time held') after)
+    → tick_at size 0 (known_before number time held) rest ≡ Ok (t, (held', after))
+    → ticks_at (suc s') size 0 (known_before number time held) (0x54 ∷ rest) ≡ and_then t (ticks_at s' size 0 (known_before (number + 1) t.time held') after)
 unfolding ticks_at
 more s' size number time held rest t held' after few e =
     let f : nat_lt most_ticks number ≡ false = le-ltb most_ticks number few in
@@ -36,8 +36,8 @@ more s' size number time held rest t held' after few e =
 
 -- one more tick is read
 pub ticks_at-more : (s size number time held : ℕ) (rest : List ℕ) (t : Tick) (held' : ℕ) (after : List ℕ) → length rest < s → number ≤ most_ticks
-    → tick_at size 0 (behind number time held) rest ≡ Ok (t, (held', after))
-    → (s' : ℕ) × (s ≡ suc s') × (ticks_at s size 0 (behind number time held) (0x54 ∷ rest) ≡ and_then t (ticks_at s' size 0 (behind (number + 1) t.time held') after))
+    → tick_at size 0 (known_before number time held) rest ≡ Ok (t, (held', after))
+    → (s' : ℕ) × (s ≡ suc s') × (ticks_at s size 0 (known_before number time held) (0x54 ∷ rest) ≡ and_then t (ticks_at s' size 0 (known_before (number + 1) t.time held') after))
 ticks_at-more zero size number time held rest t held' after room few e = absurd (omega arith)
 ticks_at-more (suc s') size number time held rest t held' after room few e = (s', refl, more s' size number time held rest t held' after few e)
 
@@ -97,13 +97,13 @@ other_with : (x : Result (Tick × (ℕ × List ℕ)) Fault) (next : Tick → ℕ
 other_with (Ok x) next h = λ none all. h all.0
 other_with (Err e) next h = λ none all. some-none _ none
 
-pub other_tick : (s size number time held : ℕ) (rest : List ℕ) → number ≤ most_ticks → IsOtherTick (tick_at size 0 (behind number time held) rest)
-    → AreOtherTicks (ticks_at s size 0 (behind number time held) (0x54 ∷ rest))
+pub other_tick : (s size number time held : ℕ) (rest : List ℕ) → number ≤ most_ticks → IsOtherTick (tick_at size 0 (known_before number time held) rest)
+    → AreOtherTicks (ticks_at s size 0 (known_before number time held) (0x54 ∷ rest))
 unfolding ticks_at
 other_tick zero size number time held rest few h = λ none all. some-none _ none
 other_tick (suc s) size number time held rest few h =
     let f : nat_lt most_ticks number ≡ false = le-ltb most_ticks number few in
-    rw (f, ticks_at) (other_with (tick_at size 0 (behind number time held) rest) (λ t held' left. ticks_at s size 0 (behind (number + 1) t.time held') left) h)
+    rw (f, ticks_at) (other_with (tick_at size 0 (known_before number time held) rest) (λ t held' left. ticks_at s size 0 (known_before (number + 1) t.time held') left) h)
 
 -- the same of bytes that are known to begin so
 pub end_at : (s size : ℕ) (before : Before) (xs after : List ℕ) → xs ≡ 0x45 ∷ after → length xs ≤ s → length after ≡ 0 → ticks_at s size 0 before xs ≡ ends_with None
@@ -121,8 +121,8 @@ other_cut_at s size before (b ∷ xs) e = absurd (omega arith)
 pub other_tag_at : (s size tag : ℕ) (before : Before) (xs after : List ℕ) → xs ≡ tag ∷ after → tag ≢ 0x45 → tag ≢ 0x54 → AreOtherTicks (ticks_at s size 0 before xs)
 other_tag_at s size tag before xs after e a b = rw e (other_tag s size tag before after a b)
 
-pub other_tick_at : (s size number time held : ℕ) (xs after : List ℕ) → xs ≡ 0x54 ∷ after → number ≤ most_ticks → IsOtherTick (tick_at size 0 (behind number time held) after)
-    → AreOtherTicks (ticks_at s size 0 (behind number time held) xs)
+pub other_tick_at : (s size number time held : ℕ) (xs after : List ℕ) → xs ≡ 0x54 ∷ after → number ≤ most_ticks → IsOtherTick (tick_at size 0 (known_before number time held) after)
+    → AreOtherTicks (ticks_at s size 0 (known_before number time held) xs)
 other_tick_at s size number time held xs after e few h = rw e (other_tick s size number time held after few h)
 
 -- a file's ticks, where what is left isn't run today
@@ -136,9 +136,9 @@ whole_all all ts r e h = e ∙ ap (before_rest ts) h ∙ ap (λ (us : List Tick)
 -- one tick more
 pub ticks_step : (ts : List SmallTick) (time size s : ℕ) (xs rest after : List ℕ) (t : SmallTick) (all : Read) → xs ≡ 0x54 ∷ rest → length xs ≤ s
     → 1 + length ts ≤ most_ticks → length after ≤ length rest
-    → tick_at size 0 (behind (1 + length ts) time (held_by ts)) rest ≡ Ok (tick_seen (1 + length ts) t, (held_by ts + length t.idr, after))
-    → all ≡ before_rest (ticks_seen 1 ts) (ticks_at s size 0 (behind (1 + length ts) time (held_by ts)) xs)
-    → (s' : ℕ) × (length after ≤ s') × (all ≡ before_rest (ticks_seen 1 (ts ++ t ∷ [])) (ticks_at s' size 0 (behind (1 + length (ts ++ t ∷ [])) t.time (held_by (ts ++ t ∷ []))) after))
+    → tick_at size 0 (known_before (1 + length ts) time (held_by ts)) rest ≡ Ok (tick_seen (1 + length ts) t, (held_by ts + length t.idr, after))
+    → all ≡ before_rest (ticks_seen 1 ts) (ticks_at s size 0 (known_before (1 + length ts) time (held_by ts)) xs)
+    → (s' : ℕ) × (length after ≤ s') × (all ≡ before_rest (ticks_seen 1 (ts ++ t ∷ [])) (ticks_at s' size 0 (known_before (1 + length (ts ++ t ∷ [])) t.time (held_by (ts ++ t ∷ []))) after))
 ticks_step ts time size s xs rest after t all e room few less read h =
     let long : length xs ≡ suc (length rest) = ap length e in
     let more = ticks_at-more s size (1 + length ts) time (held_by ts) rest (tick_seen (1 + length ts) t) (held_by ts + length t.idr) after (omega arith) few read in
@@ -146,9 +146,9 @@ ticks_step ts time size s xs rest after t all e room few less read h =
     let count : 1 + length ts + 1 ≡ 1 + length (ts ++ t ∷ []) = omega (arith, length-append ts (t ∷ [])) in
     let held : held_by ts + length t.idr ≡ held_by (ts ++ t ∷ []) = sym (held_by-push ts t) in
     let fits : length after ≤ s' = omega (arith, more.1) in
-    let r : Read = ticks_at s' size 0 (behind (1 + length ts + 1) t.time (held_by ts + length t.idr)) after in
-    let shown : r ≡ ticks_at s' size 0 (behind (1 + length (ts ++ t ∷ [])) t.time (held_by (ts ++ t ∷ []))) after = rw (← count, ← held) refl in
-    (s', fits, h ∙ ap (before_rest (ticks_seen 1 ts)) (ap (λ (ys : List ℕ). ticks_at s size 0 (behind (1 + length ts) time (held_by ts)) ys) e ∙ more.2) ∙ before_rest-push 1 ts t r ∙ ap (before_rest (ticks_seen 1 (ts ++ t ∷ []))) shown)
+    let r : Read = ticks_at s' size 0 (known_before (1 + length ts + 1) t.time (held_by ts + length t.idr)) after in
+    let shown : r ≡ ticks_at s' size 0 (known_before (1 + length (ts ++ t ∷ [])) t.time (held_by (ts ++ t ∷ []))) after = rw (← count, ← held) refl in
+    (s', fits, h ∙ ap (before_rest (ticks_seen 1 ts)) (ap (λ (ys : List ℕ). ticks_at s size 0 (known_before (1 + length ts) time (held_by ts)) ys) e ∙ more.2) ∙ before_rest-push 1 ts t r ∙ ap (before_rest (ticks_seen 1 (ts ++ t ∷ []))) shown)
 
 -- a whole file, by its head and its ticks
 pub read-whole : (bytes rest : List ℕ) (d : ℕ) (r : Read) → head_at (length bytes) bytes ≡ Ok (record { audio = 0; duration = d }, rest)

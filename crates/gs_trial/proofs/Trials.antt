@@ -1,12 +1,13 @@
 -- What is written of a run, step after step.
-use Rattle.std.proofs.Common.{ℕ, ◌≡◌, ◌+◌, ◌<◌, ◌≤◌, Bool, true, false, ◌&&◌, List, [], ◌∷◌, ◌++◌, length, take, drop, Option, Result, Ok, Err, OnOk, OnErr, slice_index_or, refl, sym, ap, ◌∙◌, arith}
+use Rattle.std.proofs.Common.{ℕ, ◌≡◌, ◌+◌, ◌<◌, ◌≤◌, true, List, [], ◌∷◌, ◌++◌, length, take, drop, Option, Result, Ok, Err, OnOk, OnErr, slice_index_or, refl, sym, ap, ◌∙◌, arith}
+use Rattle.std.proofs.lemmas.Bool.{and_parts}
 use Rattle.std.proofs.lemmas.List.{append-nil, append_assoc, length-append, length-drop, take_at, take-append-drop, drop_all}
 use Rattle.std.proofs.Math.Seq.{drop-cons}
 use Rattle.std.proofs.Math.Numerals.{add-one}
 use Rattle.std.specs.List.{list_all}
 use Rattle.std.specs.Io.KnownBytes.{Appends}
 use Rattle.std.proofs.KnownBytes.{Appends-trans}
-use Rattle.gs_bytes.specs.Outside.{AppendsPart, Rose}
+use Rattle.gs_bytes.specs.Outside.{AppendsPart}
 use Rattle.gs_trial.specs.declared.step.Step.{Step}
 use Rattle.gs_trial.specs.Forms.{is_small_step, are_taken}
 use Rattle.gs_refs.specs.History.{frames}
@@ -14,20 +15,16 @@ use Rattle.gs_frames.specs.Handed.{handed, asks}
 use Rattle.gs_trial.specs.Output.{done_line, total_line}
 use Rattle.gs_trial.specs.Run.{Tape, Session, State, is_taken, after, step_text, text_from, total_of, totals_from}
 
-pub both_true : (a b : Bool) → (a && b) ≡ true → (a ≡ true) × (b ≡ true)
-both_true true b e = (refl, e)
-both_true false b e = absurd cc
-
 pub step_at : (steps : List Step) (i : ℕ) (d : Step) → i < length steps → drop i steps ≡ slice_index_or steps i d ∷ drop (i + 1) steps
 step_at steps i d h = rw add-one (drop-cons steps i d h)
 
 -- the first of steps that may be run
 pub first_small : (s : Step) (rest : List Step) → list_all is_small_step (s ∷ rest) ≡ true → (is_small_step s ≡ true) × (list_all is_small_step rest ≡ true)
-first_small s rest e = both_true (is_small_step s) (list_all is_small_step rest) e
+first_small s rest e = and_parts (is_small_step s) (list_all is_small_step rest) e
 
 pub first_taken : (tape : Tape) (now : State) (s : Step) (rest : List Step) → are_taken tape now (s ∷ rest) ≡ true → (is_taken tape now s ≡ true) × (are_taken tape (after tape now s) rest ≡ true)
 unfolding are_taken
-first_taken tape now s rest e = both_true (is_taken tape now s) (are_taken tape (after tape now s) rest) e
+first_taken tape now s rest e = and_parts (is_taken tape now s) (are_taken tape (after tape now s) rest) e
 
 pub first_text : (tape : Tape) (now : State) (s : Step) (rest : List Step) → is_taken tape now s ≡ true
     → text_from tape true now (s ∷ rest) ≡ step_text tape now s ++ text_from tape true (after tape now s) rest
@@ -62,9 +59,6 @@ part_more a b c done piece rest all w p e =
     ap (λ (l : List ℕ). done ++ l) (sym (append_assoc (take n piece) (drop n piece) rest)) ∙ ap (λ (l : List ℕ). done ++ (l ++ rest)) (take-append-drop n piece) ∙ e in
     let more : 0 < length (drop n piece ++ rest) = omega (arith, length-append (drop n piece) rest, length-drop n piece) in
     part_at a c (done ++ take n piece) (drop n piece ++ rest) all (Appends-trans a b c done (take n piece) w p.2) (append_assoc done (take n piece) (drop n piece ++ rest) ∙ whole) more
-
-pub rose_later : (a b c : ℕ) → a ≤ b → Rose b c → Rose a c
-rose_later a b c h r = omega (arith, r)
 
 -- what is known behind one step more
 pub record IsNext (tape : Tape) (now : State) (steps : List Step) (i : ℕ) (s : Step) (done all : List ℕ) : Type 0 where

@@ -2,14 +2,14 @@
 use Rattle.std.proofs.Common.{◌≡◌, ◌<◌, ◌≤◌, ◌+◌, ◌-◌, ℕ, zero, suc, Bool, true, false, List, [], ◌∷◌, Option, Some, None, refl, ap, ◌∙◌, arith}
 use Rattle.std.specs.Prelude.{◌==◌, ◌&&◌, ◌||◌, not, nat_lt, if◌then◌else◌}
 use Rattle.std.specs.List.{AllByRecursion, slice_get, list_any}
-use Rattle.std.proofs.lemmas.Bool.{cond-true, cond-false, le-ltb, lt-ltb, ne_eqb, and_left, and_right, and_from}
+use Rattle.std.proofs.lemmas.Bool.{cond-true, cond-false, le-ltb, lt-ltb, and_left, and_right, and_from}
 use Rattle.gs_rtp.specs.Stream.{StreamSettings}
 use Rattle.gs_tape.specs.Tick.{Tick, Delta}
 use Rattle.gs_refs.specs.declared.entry.Entry.{Entry}
 use Rattle.gs_refs.specs.declared.entry.Entry.TheVariants.{Sent, Invalid, IdrAsked, Ended}
 use Rattle.gs_refs.specs.History.{frames, last_tick, tick_of, is_valid, idr_is_owed, has_ended}
 use Rattle.gs_refs.specs.Choice.{Choice, idr, names, greatest_named, re_entry, choice}
-use Rattle.gs_stream.specs.Video.{tick_numbered, sent_unit, unit_of}
+use Rattle.gs_stream.specs.Video.{tick_numbered}
 use Rattle.gs_trial.specs.declared.tape.SmallTick.{SmallTick}
 use Rattle.std.proofs.lemmas.Option.{none-some, same_Some}
 use Rattle.gs_trial.specs.Run as Run
@@ -77,8 +77,3 @@ pub seen_numbered : (number : ℕ) (ticks : List SmallTick) (t : SmallTick) → 
     → tick_numbered (ticks_seen 1 ticks) number ≡ Some (tick_seen number t)
 seen_numbered number ticks t least there =
     seen_from 1 (number - 1) ticks t there ∙ ap (λ (n : ℕ). Some (tick_seen n t)) (omega arith)
-
--- a frame keeps its unit
-pub unit_of-kept : (ticks : List Tick) (h : List Entry) (tick kind reference f : ℕ) → f ≤ frames h → unit_of ticks (Sent tick kind reference ∷ h) f ≡ unit_of ticks h f
-unit_of-kept ticks h tick kind reference f before =
-    cond-false (f == frames h + 1) (sent_unit (tick_numbered ticks tick) kind (tick_of h reference)) (unit_of ticks h f) (ne_eqb f (frames h + 1) (λ e. absurd (omega (arith, e))))

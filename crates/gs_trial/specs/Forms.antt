@@ -5,7 +5,7 @@ use Rattle.gs_tape.specs.Tick.{Tick}
 use Rattle.gs_tape.specs.Reading.{ticks_of, first_fault, audio_length}
 use Rattle.gs_trial.specs.declared.step.Step.{Step}
 use Rattle.gs_trial.specs.declared.step.Step.TheVariants.{Session, Cap, Send, Video}
-use Rattle.gs_trial.specs.Schedule.{IsSchedule}
+use Rattle.gs_trial.specs.Schedule.{IsBusySchedule}
 use Rattle.gs_trial.specs.Run.{Tape, State, start, tape_of, is_taken, after}
 
 abbrev pub most_input : ℕ
@@ -50,10 +50,10 @@ unfoldable pub are_taken : Tape → State → List Step → Bool
 are_taken tape state [] = true
 are_taken tape state (s ∷ steps) = is_taken tape state s && are_taken tape (after tape state s) steps
 
--- the schedule's bytes are the text of these steps, over this capture file
+-- the schedule's bytes are the text of these steps, a line for each, over this capture file
 pub record IsSmallSchedule (tape schedule : List ℕ) (steps : List Step) : Type 0 where
   pub length : length schedule ≤ most_input
-  pub lines : IsSchedule schedule steps
+  pub lines : IsBusySchedule schedule steps
   pub small : are_small_steps steps ≡ true
   pub taken : are_taken (tape_of tape) start steps ≡ true
 

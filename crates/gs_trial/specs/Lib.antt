@@ -6,4 +6,4 @@ pub mod Words
 pub mod Trial
 pub mod Standing
 pub mod Counting
-pub mod Built
+pub mod RunLaws

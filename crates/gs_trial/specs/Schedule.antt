@@ -1,6 +1,7 @@
--- The text of a schedule: one step a line, its words parted by one space, numbers in decimal.
-use Rattle.std.specs.Prelude.{ℕ, ◌≡◌, ◌≢◌, ◌<◌, ◌^◌, List, [], ◌∷◌, ◌++◌, map, codes, decimal, ◌==◌, if◌then◌else◌}
-use Rattle.std.specs.List.{AllByRecursion}
+-- The text of a schedule: one step a line, its words parted by one space, numbers in decimal, and lines that
+-- do nothing.
+use Rattle.std.specs.Prelude.{ℕ, ◌≡◌, ◌≢◌, ◌<◌, ◌≤◌, ◌^◌, Bool, true, not, List, [], ◌∷◌, ◌++◌, length, map, codes, decimal, ◌==◌, if◌then◌else◌}
+use Rattle.std.specs.List.{AllByRecursion, filter}
 use Rattle.gs_trial.specs.declared.step.Step.{Step}
 use Rattle.gs_trial.specs.declared.step.Step.TheVariants.{Session, Cap, Send, Video}
 
@@ -39,7 +40,25 @@ unfoldable pub lines_of : List ℕ → List (List ℕ)
 lines_of [] = []
 lines_of (b ∷ bytes) = if b == newline then [] ∷ lines_of bytes else onto_line b (lines_of bytes)
 
--- the text is that of these steps
+-- a line that does nothing: an empty one, or a comment
+abbrev pub is_idle : List ℕ → Bool
+is_idle [] = true
+is_idle (b ∷ line) = b == 0x23
+
+abbrev pub is_busy : List ℕ → Bool
+is_busy line = not (is_idle line)
+
+-- the most bytes of a line, without its newline
+abbrev pub most_line : ℕ
+most_line = 64
+
+-- The text is that of these steps: a line for each of them, in order, and among these lines that do nothing.
 pub record IsSchedule (bytes : List ℕ) (steps : List Step) : Type 0 where
-  pub lines : lines_of bytes ≡ map line_of steps
+  pub lines : filter is_busy (lines_of bytes) ≡ map line_of steps
+  pub short : AllByRecursion (λ line. length line ≤ most_line) (lines_of bytes)
   pub numbers : AllByRecursion IsStep steps
+
+-- and none of its lines does nothing
+pub record IsBusySchedule (bytes : List ℕ) (steps : List Step) : Type 0 where
+  pub schedule : IsSchedule bytes steps
+  pub busy : AllByRecursion (λ line. is_busy line ≡ true) (lines_of bytes)

@@ -21,7 +21,6 @@ use Rattle.gs_trial.specs.declared.step.Step.TheVariants.{Video}
 use Rattle.gs_trial.specs.Run as Run
 use Rattle.gs_trial.specs.Run.{Tape, State, start, is_taken, after, step_text, text_from}
 use Rattle.gs_trial.specs.Forms.{is_small_step, are_small_steps, are_taken, most_small_unit, most_input, IsSmallTick}
-use Rattle.gs_trial.specs.Trial.{HandsCaptured}
 use Rattle.gs_trial.specs.declared.session.Session.{Session}
 
 -- a tick that the reader keeps, by its number
@@ -38,8 +37,8 @@ abbrev pub seen : ℕ → List SmallTick → Tape
 seen duration ticks = record { ticks = ticks_seen 1 ticks; audio = 0; duration = duration }
 
 -- what is known before a tick
-abbrev pub behind : ℕ → ℕ → ℕ → Before
-behind number time held = record { number = number; time = time; held = held }
+abbrev pub known_before : ℕ → ℕ → ℕ → Before
+known_before number time held = record { number = number; time = time; held = held }
 
 -- no head is read there, or one of a file with audio
 abbrev pub IsOtherHead : Result (Head × List ℕ) Fault → Type 0
@@ -165,7 +164,6 @@ pub record StandsFor (ticks : List SmallTick) (session : Session) (tape : Tape) 
   pub bare : IsBare only.settings
   pub host : HostStandsFor tape.ticks only.settings session.host only.history
   pub client : ClientStandsFor only.settings session.client only.came
-  pub hands : HandsCaptured tape only
 
 -- a step of the session that the run takes, in some state that the session stands for
 pub record MayAct (ticks : List SmallTick) (session : Session) (step : Step) : Type 0 where

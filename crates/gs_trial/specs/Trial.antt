@@ -1,11 +1,13 @@
 -- What a trial promises of its inputs and its output. What an object doesn't tell is `None`.
-use Rattle.std.specs.Prelude.{ℕ, ◌≡◌, ◌+◌, ◌≤◌, Bool, List, [], ◌∷◌, length, Option}
+use Rattle.std.specs.Prelude.{ℕ, ◌≡◌, ◌+◌, ◌≤◌, Bool, false, List, [], ◌∷◌, length, Option}
 use Rattle.std.specs.Io.KnownBytes.{Appends, Consumes, IsAtEnd}
-use Rattle.std.specs.List.{AllByRecursion}
+use Rattle.std.specs.List.{All, AllByRecursion}
 use Rattle.gs_bytes.specs.Outside.{AppendsPart, SetsFlag}
-use Rattle.gs_refs.specs.History.{frames}
-use Rattle.gs_frames.specs.Handed.{handed, Handed}
-use Rattle.gs_stream.specs.Video.{unit_of}
+use Rattle.gs_refs.specs.History.{has_ended}
+use Rattle.gs_frames.specs.Handed.{handed}
+use Rattle.gs_stream.specs.HandedLaws.{IsHostHistory, IsSentFrame}
+use Rattle.gs_stream.specs.Paired.{IsPaired}
+use Rattle.gs_pair.specs.References.{ReferencesHeld, handed_frames}
 use Rattle.gs_trial.specs.declared.step.Step.{Step}
 use Rattle.gs_trial.specs.Run.{Tape, Session, State, start, tape_of, after, text_of}
 use Rattle.gs_trial.specs.Forms.{most_input, IsBuilt}
@@ -32,22 +34,30 @@ unfoldable pub behind : Tape → State → List Step → State
 behind tape state [] = state
 behind tape state (s ∷ steps) = behind tape (after tape state s) steps
 
--- a frame that was sent, with its captured unit
-pub record IsCaptured (tape : Tape) (session : Session) (handed : Handed) : Type 0 where
-  pub sent_least : 1 ≤ handed.frame
-  pub sent_greatest : handed.frame ≤ frames session.history
-  pub unit : handed.unit ≡ unit_of tape.ticks session.history handed.frame
+-- a session of a run: its history is one that a host may have, what its client was given is paired with
+-- it, and nothing ended it
+pub record IsPairedSession (tape : Tape) (session : Session) : Type 0 where
+  pub history : IsHostHistory session.settings tape.ticks session.history
+  pub paired : IsPaired session.settings tape.ticks session.history session.came
+  pub goes_on : has_ended session.history ≡ false
 
 -- each frame that a session's client was handed was sent, and is byte for byte the captured unit of it
 abbrev pub HandsCaptured : Tape → Session → Type 0
-HandsCaptured tape session = AllByRecursion (IsCaptured tape session) (handed session.settings session.came)
+HandsCaptured tape session = All (IsSentFrame tape.ticks session.history) (handed session.settings session.came)
 
--- Both inputs were read, and what they hold is run today.
+-- and each of them that refers to another was handed behind it
+abbrev pub HandsReferences : Tape → Session → Type 0
+HandsReferences tape session = ReferencesHeld session.history (handed_frames session.settings session.came)
+
+-- Both inputs were read, and what they hold is run today; behind all steps each session is paired, and its
+-- client was handed captured units alone, each behind the one that it refers to.
 pub record IsRun (tape_before tape_now schedule_before schedule_now : Told) (tape schedule : List ℕ) (steps : List Step) : Type 0 where
   pub tape_read : WasRead tape_before tape_now tape
   pub schedule_read : WasRead schedule_before schedule_now schedule
   pub built : IsBuilt tape schedule steps
+  pub paired : AllByRecursion (IsPairedSession (tape_of tape)) (behind (tape_of tape) start steps).sessions
   pub captured : AllByRecursion (HandsCaptured (tape_of tape)) (behind (tape_of tape) start steps).sessions
+  pub references : AllByRecursion (HandsReferences (tape_of tape)) (behind (tape_of tape) start steps).sessions
 
 -- the whole text of the run was written
 abbrev pub WritesText : Told → Told → Told → Told → Option (List ℕ) → Option (List ℕ) → Type 0

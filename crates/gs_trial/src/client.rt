@@ -17,8 +17,8 @@ const LAST_LENGTH: usize = IMAGE + 4;
 
 const UNIT: usize = IMAGE + 8;
 
-#[derive(Drop)]
 /// What a client has taken: the greatest frame, and how much it handed over and asked for.
+#[derive(Drop)]
 pub struct Client {
     greatest: u32,
     pub handed: u32,

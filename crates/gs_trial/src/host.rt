@@ -25,8 +25,8 @@ const WHOLE_BLOCK: u8 = 7;
 
 const MULTI_FLAGS: u8 = 0x10;
 
-#[derive(Drop)]
 /// What a host has sent: the datagrams, one a frame, and the tick of the last one.
+#[derive(Drop)]
 pub struct Host {
     settings: Settings,
     datagrams: Vec<Vec<u8>>,

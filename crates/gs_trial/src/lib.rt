@@ -10,10 +10,14 @@
 //! at most 1,000 bytes, and of schedules of one session without parity, both of at most 65,536 bytes:
 //!
 //! - at `Ok` what was written is the text that the definition of a run gives for the bytes of both
-//!   inputs, which were read to their end, and each frame that the client was handed is byte for byte
-//!   the captured unit of that frame;
+//!   inputs, which were read to their end; its sessions are paired, and each frame that the client was
+//!   handed is byte for byte the captured unit of that frame and comes behind the frame that it refers to;
 //! - each other answer comes where its cause says, and what was written by then is the text's front;
 //! - any other input is `Later`, with nothing written.
+//!
+//! More is known of the definition of a run: `runs_are_paired`, `runs_hand_captured_units` and
+//! `runs_hand_references` are laws about every run of it, also one that is `Later` today, over any capture
+//! file whose head is in order.
 #![tactic(auto)]
 
 mod client;
@@ -29,7 +33,7 @@ mod tape;
 mod trial;
 mod words;
 
-pub use laws::built_runs_hand_captured_units;
+pub use laws::{runs_are_paired, runs_hand_captured_units, runs_hand_references};
 pub use status::TrialStatus;
 pub use step::Step;
 pub use trial::trial_main;

@@ -2,7 +2,7 @@
 
 ghost use Rattle.std.specs.Prelude.{◌≡◌, ◌≢◌, ℕ, ◌+◌, ◌<◌, ◌^◌, ◌∷◌, ◌++◌, IfOk, IfSome, IfNone, List, codes, decimal, length, map};
 ghost use Rattle.gs_trial.specs.declared.step.Step.{Step as StepOf};
-ghost use Rattle.gs_trial.specs.Schedule.{Lacks, IsSchedule, IsStep, line_of, lines_of};
+ghost use Rattle.gs_trial.specs.Schedule.{Lacks, IsBusySchedule, IsStep, line_of, lines_of};
 
 use crate::step::Step;
 use gs_bytes::OutOfMemory;
@@ -104,10 +104,10 @@ fn split_line(text: &[u8]) -> (&[u8], &[u8])
     }
 }
 
-/// The steps of a schedule, where each of its lines is one.
+/// The steps of a schedule, where each of its lines is one, and none an empty line or a comment.
 pub fn read_schedule(alloc: Global, bytes: &[u8]) -> Result<Option<Vec<Step>>, OutOfMemory>
-    ensures some { IfOk result (λ read. IfSome read (λ steps. IsSchedule bytes.now steps.items)) }
-    ensures none { IfOk result (λ read. IfNone read ((steps : List StepOf) → IsSchedule bytes.now steps → ⊥)) }
+    ensures some { IfOk result (λ read. IfSome read (λ steps. IsBusySchedule bytes.now steps.items)) }
+    ensures none { IfOk result (λ read. IfNone read ((steps : List StepOf) → IsBusySchedule bytes.now steps → ⊥)) }
 {
     let mut steps = Vec::new(alloc);
     let mut rest = bytes;

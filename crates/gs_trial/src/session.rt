@@ -20,8 +20,8 @@ use std::alloc::Global;
 /// The number of the only session.
 const NUMBER: u32 = 1;
 
-#[derive(Drop)]
 /// A session: how many ticks the capture has, its host and its client.
+#[derive(Drop)]
 pub struct Session {
     captured: u32,
     host: Host,

@@ -4,7 +4,7 @@ ghost use Rattle.std.specs.Prelude.{◌≡◌, ◌≢◌, ◌⊎◌, ℕ, ◌+�
 ghost use Rattle.std.specs.List.{All};
 ghost use Rattle.gs_tape.specs.Reading.{Malformed, head_at, number_at, unit_at, tick_at, ticks_at, before_first, most_bytes};
 ghost use Rattle.gs_trial.specs.Forms.{most_input, most_small_unit, IsSmallTape};
-ghost use Rattle.gs_trial.specs.Standing.{behind, tick_seen, ticks_seen, IsOtherHead, IsOtherUnit, IsOtherTick, AreOtherTicks};
+ghost use Rattle.gs_trial.specs.Standing.{known_before, tick_seen, ticks_seen, IsOtherHead, IsOtherUnit, IsOtherTick, AreOtherTicks};
 ghost use Rattle.gs_trial.specs.Run.{tape_of};
 
 use gs_bytes::{OutOfMemory, Text, read_u16_le, read_u32_le};
@@ -123,10 +123,10 @@ fn tick_of(
     rest: &[u8],
 ) -> Result<Option<(SmallTick, &[u8])>, OutOfMemory>
     ensures read { IfOk result (λ read. IfSome read (λ x. (size number held : ℕ) → held + length x.0.idr ≤ most_bytes
-        → tick_at size 0 (behind number earliest held) rest.now ≡ Ok (tick_seen number x.0, (held + length x.0.idr, x.1.now)))) }
+        → tick_at size 0 (known_before number earliest held) rest.now ≡ Ok (tick_seen number x.0, (held + length x.0.idr, x.1.now)))) }
     ensures small { IfOk result (λ read. IfSome read (λ x. length x.0.idr ≤ most_small_unit)) }
     ensures shorter { IfOk result (λ read. IfSome read (λ x. length x.1.now + length x.0.idr + 10 ≡ length rest.now)) }
-    ensures none { IfOk result (λ read. IfNone read ((size number held : ℕ) → held ≤ most_bytes → IsOtherTick (tick_at size 0 (behind number earliest held) rest.now))) }
+    ensures none { IfOk result (λ read. IfNone read ((size number held : ℕ) → held ≤ most_bytes → IsOtherTick (tick_at size 0 (known_before number earliest held) rest.now))) }
 {
     let Some((time, rest)) = split_u32(rest) else {
         return Ok(None);

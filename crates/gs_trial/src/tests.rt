@@ -1,5 +1,8 @@
 use super::*;
-use gs_bytes::{MemSink, MemSource};
+use crate::host::Host;
+use crate::tape::SmallTick;
+use gs_bytes::{MemSink, MemSource, Text};
+use gs_rtp::Settings;
 use std::alloc::Global;
 use std::test::Fail;
 
@@ -8,6 +11,11 @@ const TAPE: &[u8] = b"GSTAPE01\x00\x00\x05\x00T\x00\x00\x00\x00\x00\x00\x03\x00\
 const SCHEDULE: &[u8] = b"session 1024 0 0\ncap\nsend 1\nvideo 1 1\n";
 
 const TEXT: &[u8] = b"sent 1 1 2 1 0\nhand 1 1 2 3\nABC\ntotal 1 1 1 0 0 0\nok\n";
+
+// The front of the datagram of a unit `ABC`: its headers and the unit, behind which are zeros.
+const DATAGRAM: &[u8] = b"\x90\x00\x00\x00\x00\x00\x00\x00\x00\x00\x00\x01\x00\x00\x00\x00\
+    \x00\x00\x00\x00\x01\x00\x00\x00\x07\x00\x10\x00\x00\x00\x40\x00\
+    \x01\x00\x00\x02\x0B\x00\x00\x00ABC";
 
 // Five ticks, with the units `A`, `BC`, `DEF`, nothing and two newlines.
 const FIVE: &[u8] = b"GSTAPE01\x00\x00\x0A\x00\
@@ -202,5 +210,20 @@ fn writes_the_smallest_trial(rt: HostRuntime) -> Result<(), Fail> {
     let (status, written) = run(rt.alloc(), (TAPE, &[]), (SCHEDULE, &[]), &[])?;
     assert_eq!(rt; status, TrialStatus::Ok);
     assert_eq!(rt; written.as_slice(), TEXT);
+    Ok(())
+}
+
+#[test]
+fn makes_the_datagram_of_a_frame(rt: HostRuntime) -> Result<(), Fail> {
+    let alloc = rt.alloc();
+    let settings = Settings::make(1024, 0, 0, 60, 5, 0, 1).ok_or("settings")?;
+    let idr = Text::copy_of(alloc, b"ABC")?;
+    let mut host = Host::new(alloc, settings);
+    assert!(rt; host.send(alloc, 1, &SmallTick { time: 0, idr })?);
+    assert_eq!(rt; host.frames(), 1);
+    let datagram = host.datagram(1);
+    assert_eq!(rt; datagram.len(), 1040);
+    assert!(rt; datagram.starts_with(DATAGRAM));
+    assert!(rt; datagram.iter().skip(DATAGRAM.len()).all(|byte| *byte == 0));
     Ok(())
 }

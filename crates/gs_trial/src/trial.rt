@@ -1,9 +1,9 @@
 // The trial itself.
 
-ghost use Rattle.std.specs.Prelude.{◌≡◌, ◌≢◌, ◌↔◌, ◌⊎◌, ◌≤◌, ◌&&◌, ℕ, true, Some, None, List, IsSome, IfOk, IfSome, IfNone, OnOk, OnErr, IsErrOf, map, length, string_bytes};
+ghost use Rattle.std.specs.Prelude.{◌≡◌, ◌≢◌, ◌↔◌, ◌⊎◌, ◌<◌, ◌≤◌, ◌+◌, ◌^◌, ◌&&◌, ℕ, true, Some, None, List, IsSome, IfOk, IfSome, IfNone, OnOk, OnErr, IsErrOf, map, length, string_bytes};
 ghost use Rattle.std.specs.List.{All};
 ghost use Rattle.std.specs.Io.KnownBytes.{Keeps, Appends};
-ghost use Rattle.gs_bytes.specs.Outside.{Rose, AppendsPart};
+ghost use Rattle.gs_bytes.specs.Outside.{Rose, AppendsPart, TakesUpTo};
 ghost use Rattle.gs_rtp.specs.Stream.{numbers_of};
 ghost use Rattle.gs_tape.specs.Reading.{first_fault};
 ghost use Rattle.gs_trial.specs.declared.step.Step.{Step as StepOf};
@@ -58,6 +58,7 @@ fn plan_of(alloc: Global, tape: &[u8], schedule: &[u8]) -> Result<Option<Plan>, 
     ensures built { IfOk result (λ read. IfSome read (λ plan. IsBuilt tape.now schedule.now plan.steps.items)) }
     ensures seen { IfOk result (λ read. IfSome read (λ plan. tape_of tape.now ≡ seen plan.tape.duration plan.tape.ticks.items)) }
     ensures whole { IfOk result (λ read. IfSome read (λ plan. first_fault tape.now ≡ None)) }
+    ensures bytes { IfOk result (λ read. IfSome read (λ plan. All (λ b. b < 2 ^ 8) tape.now)) }
     ensures may { IfOk result (λ read. IfSome read (λ plan. MayRunPlan plan.tape.duration plan.tape.ticks.items plan.steps.items)) }
     ensures none { IfOk result (λ read. IfNone read ((steps : List StepOf) → IsBuilt tape.now schedule.now steps → ⊥)) }
 {
@@ -88,6 +89,7 @@ fn run_session<K: Sink>(
     ensures ok { OnOk result (Appends (K.written out.old) (K.written out.new) (session_text ticks.now (numbers_of settings) steps.now)) }
     ensures err { OnErr result (AppendsPart (K.written out.old) (K.written out.new) (session_text ticks.now (numbers_of settings) steps.now)) }
     ensures fault { IsErrOf result Failed.Fault → Rose (K.faults out.old) (K.faults out.new) }
+    ensures none_counted { OnOk result (K.faults out.new ≡ K.faults out.old) }
 {
     let mut session = Session::open(alloc, settings);
     let mut text = Vec::new(alloc);
@@ -110,6 +112,7 @@ fn run<K: Sink>(alloc: Global, plan: &Plan, out: &mut K) -> Result<(), Failed>
     ensures err { OnErr result (AppendsPart (K.written out.old) (K.written out.new)
         (text_from (seen plan.now.tape.duration plan.now.tape.ticks.items) true start plan.now.steps.items)) }
     ensures fault { IsErrOf result Failed.Fault → Rose (K.faults out.old) (K.faults out.new) }
+    ensures none_counted { OnOk result (K.faults out.new ≡ K.faults out.old) }
 {
     match plan.steps.as_slice() {
         [] => write_all(out, b"ok\n"),
@@ -139,6 +142,12 @@ pub fn trial_main<S: Source, T: Source, K: Sink>(
     ensures schedule_fault { result ≡ TrialStatus.ScheduleFault → Rose (T.faults schedule.old) (T.faults schedule.new) }
     ensures write_fault { result ≡ TrialStatus.WriteFault → Rose (K.faults out.old) (K.faults out.new) }
 
+    // A fault that was counted is answered, and that of the capture file comes first.
+    ensures tape_counted { S.faults tape.new ≢ S.faults tape.old → (result ≡ TrialStatus.TapeFault) ⊎ (result ≡ TrialStatus.OutOfMemory) }
+    ensures schedule_counted { T.faults schedule.new ≢ T.faults schedule.old → (result ≡ TrialStatus.ScheduleFault) ⊎ (result ≡ TrialStatus.OutOfMemory) }
+    ensures write_counted { K.faults out.new ≢ K.faults out.old → (result ≡ TrialStatus.WriteFault) ⊎ (result ≡ TrialStatus.OutOfMemory) }
+    ensures tape_first { result ≡ TrialStatus.TapeFault → schedule.new ≡ schedule.old }
+
     // What isn't run today was read, and is no capture file and schedule that is.
     ensures later { result ≡ TrialStatus.Later → ReadsOther
         (told (S.left tape.old) (S.taken tape.old) (S.met_end tape.old)) (told (S.left tape.new) (S.taken tape.new) (S.met_end tape.new))
@@ -158,10 +167,15 @@ pub fn trial_main<S: Source, T: Source, K: Sink>(
         (told (T.left schedule.old) (T.taken schedule.old) (T.met_end schedule.old)) (told (T.left schedule.new) (T.taken schedule.new) (T.met_end schedule.new))
         (K.written out.old) (K.written out.new) }
 
-    // Every other answer comes before anything is written.
-    ensures usage_writes_nothing { IsSome (first_misfit (map string_bytes words.now)) → Keeps (K.written out.old) (K.written out.new) }
-    ensures fault_writes_nothing { (result ≡ TrialStatus.TapeFault) ⊎ (result ≡ TrialStatus.ScheduleFault) → Keeps (K.written out.old) (K.written out.new) }
-    ensures later_writes_nothing { result ≡ TrialStatus.Later → Keeps (K.written out.old) (K.written out.new) }
+    // Whatever the answer, reading stops behind the bound of either input.
+    ensures tape_bound { TakesUpTo (most_input + 1) (S.left tape.old) (S.left tape.new) (S.taken tape.old) (S.taken tape.new) }
+    ensures schedule_bound { TakesUpTo (most_input + 1) (T.left schedule.old) (T.left schedule.new) (T.taken schedule.old) (T.taken schedule.new) }
+
+    // Every other answer comes before the output is touched, and faulty words before anything is.
+    ensures usage_reads_nothing { IsSome (first_misfit (map string_bytes words.now)) → (tape.new ≡ tape.old) × (schedule.new ≡ schedule.old) }
+    ensures usage_writes_nothing { IsSome (first_misfit (map string_bytes words.now)) → out.new ≡ out.old }
+    ensures fault_writes_nothing { (result ≡ TrialStatus.TapeFault) ⊎ (result ≡ TrialStatus.ScheduleFault) → out.new ≡ out.old }
+    ensures later_writes_nothing { result ≡ TrialStatus.Later → out.new ≡ out.old }
 {
     if let Some(word) = misfit(words) {
         return TrialStatus::Usage { word };

@@ -22,7 +22,7 @@ loop-step-init g c = record {
   done = [];
   written = Appends-nil (g.K.Outside.written c.args.out.now);
   text = refl;
-  faults = omega arith;
+  faults = refl;
 }
 
 pub act-requires : goal.act-requires
@@ -65,7 +65,7 @@ loop-step-preserved g c =
       done = c.loop-step.invariant.done ++ step_text tape c.loop-step.invariant.now (slice_index_or c.args.steps.now c.loop-step.step-index (Session 0 0 0));
       written = Appends-trans (g.K.Outside.written c.args.out.now) (g.K.Outside.written c.loop-step.out) (g.K.Outside.written c.write_all.new.out) c.loop-step.invariant.done _ c.loop-step.invariant.written (subst written piece c.in_ok-write_all.ensures.ok);
       text = append_assoc c.loop-step.invariant.done _ _ ∙ next.text;
-      faults = omega (arith, c.loop-step.invariant.faults, c.in_ok-write_all.ensures.never_falls);
+      faults = c.in_ok-write_all.ensures.none_counted ∙ c.loop-step.invariant.faults;
     }
 
 pub returns-in_err-push_total-clause-err : goal.returns-in_err-push_total-clause-err

@@ -1,4 +1,4 @@
-use Rattle.std.proofs.Common.{◌≡◌, ℕ, ◌≤◌, ◌++◌, List, drop, true}
+use Rattle.std.proofs.Common.{◌≡◌, ℕ, ◌++◌, List, drop, true}
 use Rattle.std.specs.List.{list_all}
 use Rattle.std.specs.Io.KnownBytes.{Appends}
 use Rattle.gs_rtp.specs.Stream.{numbers_of}
@@ -20,5 +20,5 @@ invariant-loop-step g l =
       done : List ℕ;
       written : Appends (g.K.Outside.written l.fn.out) (g.K.Outside.written l.out) done;
       text : done ++ text_from tape true now (drop l.step-index l.steps) ≡ session_text l.ticks (numbers_of l.fn.settings) l.steps;
-      faults : g.K.Outside.faults l.fn.out ≤ g.K.Outside.faults l.out;
+      faults : g.K.Outside.faults l.out ≡ g.K.Outside.faults l.fn.out;
     }

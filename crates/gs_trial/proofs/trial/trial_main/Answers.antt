@@ -1,5 +1,6 @@
-use Rattle.std.proofs.Common.{◌≡◌, List, None, subst, inr}
+use Rattle.std.proofs.Common.{◌≡◌, ◌<◌, ◌^◌, List, None, subst, inr}
 use Rattle.std.specs.Io.KnownBytes.{Appends}
+use Rattle.std.specs.List.{All}
 use Rattle.gs_bytes.specs.Outside.{AppendsPart}
 use Rattle.gs_trial.specs.Forms.{IsBuilt}
 use Rattle.gs_trial.specs.Standing.{seen}
@@ -27,7 +28,8 @@ returns-in-Ok-run-clause-ok g c e = (
   is_run _ _ _ _ _ _ _
       (was_read _ _ _ _ c.as_bytes.ensures c.in-Ok.ensures.bound c.in-Ok.ensures.left c.in-Ok.ensures.taken c.in-Ok.ensures.at_end c.in-Ok.ensures.met_end)
       (was_read _ _ _ _ c.as_bytes-2.ensures c.in-Ok-read_up_to.ensures.bound c.in-Ok-read_up_to.ensures.left c.in-Ok-read_up_to.ensures.taken c.in-Ok-read_up_to.ensures.at_end c.in-Ok-read_up_to.ensures.met_end)
-      (some_at c.in-Ok-Some.field-0 c.in-Ok-Some.plan (λ plan. IsBuilt c.as_bytes.result.now c.as_bytes-2.result.now plan.steps.items) c.in-Ok-Some.field-0-is c.in-Ok-Some.ensures.built),
+      (some_at c.in-Ok-Some.field-0 c.in-Ok-Some.plan (λ plan. IsBuilt c.as_bytes.result.now c.as_bytes-2.result.now plan.steps.items) c.in-Ok-Some.field-0-is c.in-Ok-Some.ensures.built)
+      (some_at c.in-Ok-Some.field-0 c.in-Ok-Some.plan (λ plan. All (λ b. b < 2 ^ 8) c.as_bytes.result.now) c.in-Ok-Some.field-0-is c.in-Ok-Some.ensures.bytes),
   subst (Appends (g.K.Outside.written c.args.out.now) (g.K.Outside.written c.run.new.out))
       (whole_text c.as_bytes.result.now (seen c.in-Ok-Some.plan.tape.duration c.in-Ok-Some.plan.tape.ticks.items) c.in-Ok-Some.plan.steps.items
       (some_at c.in-Ok-Some.field-0 c.in-Ok-Some.plan (λ plan. first_fault c.as_bytes.result.now ≡ None) c.in-Ok-Some.field-0-is c.in-Ok-Some.ensures.whole)
@@ -43,7 +45,8 @@ returns-in-Err-Fault-run-clause-write_part g c e = (
   is_run _ _ _ _ _ _ _
       (was_read _ _ _ _ c.as_bytes.ensures c.in-Ok.ensures.bound c.in-Ok.ensures.left c.in-Ok.ensures.taken c.in-Ok.ensures.at_end c.in-Ok.ensures.met_end)
       (was_read _ _ _ _ c.as_bytes-2.ensures c.in-Ok-read_up_to.ensures.bound c.in-Ok-read_up_to.ensures.left c.in-Ok-read_up_to.ensures.taken c.in-Ok-read_up_to.ensures.at_end c.in-Ok-read_up_to.ensures.met_end)
-      (some_at c.in-Ok-Some.field-0 c.in-Ok-Some.plan (λ plan. IsBuilt c.as_bytes.result.now c.as_bytes-2.result.now plan.steps.items) c.in-Ok-Some.field-0-is c.in-Ok-Some.ensures.built),
+      (some_at c.in-Ok-Some.field-0 c.in-Ok-Some.plan (λ plan. IsBuilt c.as_bytes.result.now c.as_bytes-2.result.now plan.steps.items) c.in-Ok-Some.field-0-is c.in-Ok-Some.ensures.built)
+      (some_at c.in-Ok-Some.field-0 c.in-Ok-Some.plan (λ plan. All (λ b. b < 2 ^ 8) c.as_bytes.result.now) c.in-Ok-Some.field-0-is c.in-Ok-Some.ensures.bytes),
   subst (AppendsPart (g.K.Outside.written c.args.out.now) (g.K.Outside.written c.run.new.out))
       (whole_text c.as_bytes.result.now (seen c.in-Ok-Some.plan.tape.duration c.in-Ok-Some.plan.tape.ticks.items) c.in-Ok-Some.plan.steps.items
       (some_at c.in-Ok-Some.field-0 c.in-Ok-Some.plan (λ plan. first_fault c.as_bytes.result.now ≡ None) c.in-Ok-Some.field-0-is c.in-Ok-Some.ensures.whole)
@@ -59,10 +62,17 @@ returns-clause-memory g c e = inr (
   is_run _ _ _ _ _ _ _
       (was_read _ _ _ _ c.as_bytes.ensures c.in-Ok.ensures.bound c.in-Ok.ensures.left c.in-Ok.ensures.taken c.in-Ok.ensures.at_end c.in-Ok.ensures.met_end)
       (was_read _ _ _ _ c.as_bytes-2.ensures c.in-Ok-read_up_to.ensures.bound c.in-Ok-read_up_to.ensures.left c.in-Ok-read_up_to.ensures.taken c.in-Ok-read_up_to.ensures.at_end c.in-Ok-read_up_to.ensures.met_end)
-      (some_at c.in-Ok-Some.field-0 c.in-Ok-Some.plan (λ plan. IsBuilt c.as_bytes.result.now c.as_bytes-2.result.now plan.steps.items) c.in-Ok-Some.field-0-is c.in-Ok-Some.ensures.built),
+      (some_at c.in-Ok-Some.field-0 c.in-Ok-Some.plan (λ plan. IsBuilt c.as_bytes.result.now c.as_bytes-2.result.now plan.steps.items) c.in-Ok-Some.field-0-is c.in-Ok-Some.ensures.built)
+      (some_at c.in-Ok-Some.field-0 c.in-Ok-Some.plan (λ plan. All (λ b. b < 2 ^ 8) c.as_bytes.result.now) c.in-Ok-Some.field-0-is c.in-Ok-Some.ensures.bytes),
   subst (AppendsPart (g.K.Outside.written c.args.out.now) (g.K.Outside.written c.run.new.out))
       (whole_text c.as_bytes.result.now (seen c.in-Ok-Some.plan.tape.duration c.in-Ok-Some.plan.tape.ticks.items) c.in-Ok-Some.plan.steps.items
       (some_at c.in-Ok-Some.field-0 c.in-Ok-Some.plan (λ plan. first_fault c.as_bytes.result.now ≡ None) c.in-Ok-Some.field-0-is c.in-Ok-Some.ensures.whole)
       (some_at c.in-Ok-Some.field-0 c.in-Ok-Some.plan (λ plan. tape_of c.as_bytes.result.now ≡ seen plan.tape.duration plan.tape.ticks.items) c.in-Ok-Some.field-0-is c.in-Ok-Some.ensures.seen))
       c.in-Err-NoMemory-run.ensures.err,
 )
+
+pub returns-in-Err-Fault-run-clause-tape_bound : goal.returns-in-Err-Fault-run-clause-tape_bound
+returns-in-Err-Fault-run-clause-tape_bound g c = (c.in-Ok.bytes, c.in-Ok.ensures.bound, c.in-Ok.ensures.left, c.in-Ok.ensures.taken)
+
+pub returns-clause-tape_bound : goal.returns-clause-tape_bound
+returns-clause-tape_bound g c = (c.in-Ok.bytes, c.in-Ok.ensures.bound, c.in-Ok.ensures.left, c.in-Ok.ensures.taken)

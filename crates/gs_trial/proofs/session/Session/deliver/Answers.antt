@@ -32,5 +32,5 @@ returns c =
     let d = delivered ticks c.args.self.now tape state c.args.k c.datagram.result.now s taken c.datagram.ensures in
     let h = c.in-Some.ensures.handed s.only.settings s.only.came c.args.k (unit_of tape.ticks s.only.history c.args.k) s.client d.sent in
     handed_acted ticks c.args.self.now _ tape state c.args.k c.args.text.now.items c.push_lost.new.text.items c.push_hand.new.text.items c.datagram.result.now
-    c.in-Some.fresh.frame _ c.in-Some.fresh.unit.now s d refl refl h.0 h.1 h.2 c.in_ok-push_lost.ensures text)
+    c.in-Some.fresh.frame _ c.in-Some.fresh.unit.now s d refl refl h.0 c.in_ok-push_lost.ensures text)
     c.push_hand.ensures
