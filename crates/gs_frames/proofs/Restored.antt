@@ -1,13 +1,17 @@
 -- A frame's shards are a block of the code, and any shards of a block, as many as it has data shards, fix its data.
-use Rattle.std.proofs.Common.{◌≡◌, ◌≢◌, ◌<◌, ◌≤◌, ◌+◌, ◌*◌, ℕ, zero, suc, Bool, true, false, List, [], ◌∷◌, ◌++◌, length, get_or, take, drop, map, Option, Some, None, refl, sym, ap, ◌∙◌, subst, arith, inl, inr, lit<}
+use Rattle.std.proofs.Common.{◌≡◌, ◌≢◌, ◌<◌, ◌≤◌, ◌+◌, ◌*◌, ℕ, zero, suc, Bool, true, false, List, [], ◌∷◌, ◌++◌, length, get_or, take, drop, map, Option, Some, None, refl, sym, ap, ◌∙◌, subst, arith, ◌⊎◌, inl, inr, lit<}
 use Rattle.std.specs.Prelude.{◌==◌, if◌then◌else◌}
 use Rattle.std.specs.List.{All, AllPairs, concat, find, slice_get, range_with_len}
 use Rattle.std.proofs.Math.Seq.{take-append_seam, drop-append-add}
-use Rattle.std.proofs.lemmas.Bool.{cases_Bool, cond-true, cond-false, eqb-true}
+use Rattle.std.proofs.lemmas.Bool.{cases_Bool, cond-true, cond-false, eqb-true, eqb-false}
+use Rattle.std.proofs.lemmas.Bool.Decides.{Decides-eqb}
 use Rattle.std.proofs.lemmas.List.{length-append, length-drop, length-map, length-take-le, get_or_append_left, get_or-map, ext_get_or}
-use Rattle.std.proofs.lemmas.List.Elements.{All-from_recursion, All-nil, All-append, All-map, All-head, All-tail}
+use Rattle.std.proofs.lemmas.List.Elements.{All-from_recursion, All-nil, All-cons, All-append, All-map, All-contains, All-head, All-tail}
 use Rattle.std.proofs.lemmas.List.Folds.{concat-append}
 use Rattle.std.proofs.lemmas.List.FromFn.{length-map-range_with_len, get_or-map-range_with_len}
+use Rattle.std.proofs.lemmas.List.Kept.{AllPairs-cons}
+use Rattle.std.proofs.lemmas.Map.Made.{IsDistinct-from_AllPairs, is_member-Decides}
+use Rattle.std.proofs.lemmas.Map.Steps.{length-le_from_distinct_below}
 use Rattle.std.proofs.lemmas.Nat.{mul-le}
 use Rattle.std.proofs.lemmas.Option.{slice_get-get_or, slice_get_within, get_or_from_slice_get}
 use Rattle.std.proofs.lemmas.Simd.{map-map}
@@ -252,7 +256,7 @@ map-same f g (x ∷ xs) same =
     cc
 
 -- what is found passes the test, and has what all have
-pub find-some : {X : Type 0} (test : X → Bool) (P : X → Type 0) (xs : List X) (x : X) → All P xs → find test xs ≡ Some x → (test x ≡ true) × P x
+find-some : {X : Type 0} (test : X → Bool) (P : X → Type 0) (xs : List X) (x : X) → All P xs → find test xs ≡ Some x → (test x ≡ true) × P x
 find-some test P [] x all e = cc
 find-some test P (y ∷ ys) x all e = elim (cases_Bool (test y)) [
   | inl passes ↦
@@ -261,6 +265,28 @@ find-some test P (y ∷ ys) x all e = elim (cases_Bool (test y)) [
       subst (λ z. (test z ≡ true) × P z) same (passes, All-head P y ys all)
   | inr fails ↦ find-some test P ys x (All-tail P y ys all) (sym (cond-false (test y) (Some y) (find test ys) fails) ∙ e)
 ]
+
+-- where none is found, all fail the test
+find-none : {X : Type 0} (test : X → Bool) (xs : List X) → find test xs ≡ None → All (λ x. test x ≡ false) xs
+find-none test [] e = All-nil (λ x. test x ≡ false)
+find-none test (x ∷ xs) e = elim (cases_Bool (test x)) [
+  | inl passes ↦ let found : Some x ≡ None = sym (cond-true (test x) (Some x) (find test xs) passes) ∙ e in cc
+  | inr fails ↦
+      All-cons (λ y. test y ≡ false) x xs fails
+      (find-none test xs (sym (cond-false (test x) (Some x) (find test xs) fails) ∙ e))
+]
+
+-- numbers below d, no two the same, are no more than d
+distinct_below-few : (d : ℕ) (numbers : List ℕ) → AllPairs (λ m n. m ≢ n) numbers → All (λ n. n < d) numbers → length numbers ≤ d
+distinct_below-few d numbers apart below =
+    length-le_from_distinct_below numbers d (IsDistinct-from_AllPairs Decides-eqb numbers apart)
+    (λ q among. All-contains (λ n. n < d) numbers q below ((is_member-Decides Decides-eqb numbers q).0 among))
+
+-- so d of them have each number below d
+none_missing : (d i : ℕ) (numbers : List ℕ) → AllPairs (λ m n. m ≢ n) numbers → All (λ n. n < d) numbers → length numbers ≡ d → i < d → All (λ n. i ≢ n) numbers → ⊥
+none_missing d i numbers apart below count within missing =
+    let few = distinct_below-few d (i ∷ numbers) (AllPairs-cons (λ m n. m ≢ n) i numbers missing apart) (All-cons (λ n. n < d) i numbers within below) in
+    absurd (omega arith)
 
 -- an element of the first of two lists
 pub slice_get-append_left : {X : Type 0} (xs ys : List X) (i : ℕ) → i < length xs → slice_get (xs ++ ys) i ≡ slice_get xs i
@@ -311,15 +337,24 @@ length-shard_of n size block i whole h =
     let room : (i + 1) * size ≤ n * size = mul-le (i + 1) size n size (omega arith) (omega arith) in
     length-take-le size (drop (i * size) block) (omega (arith, length-drop (i * size) block))
 
+-- where there is no parity, each data shard is held
+data_held : (code : Shape) (size : ℕ) (block : List ℕ) (held : List Received) → code.parity ≡ 0 → AreOfBlock code size block held
+    → (i : ℕ) → i < code.data → find (λ (r : Received). r.head.index == i) held ≢ None
+data_held code size block held bare of_block i in_i e =
+    let missing = find-none (λ (r : Received). r.head.index == i) held e in
+    let enough = held_enough code size block held of_block in
+    none_missing code.data i (map number_of held) enough.distinct (λ j d h. omega (arith, enough.in_range j d h)) enough.count in_i
+    (All-map (λ n. i ≢ n) number_of held (λ j d h. λ same. eqb-false (get_or held j d).head.index i (missing j d h) (sym same)))
+
 -- a data shard is the one held, where it is held, and else what is restored
-held_or_restored-is : (code : Shape) (size : ℕ) (block : List ℕ) (held : List Received) → IsCode code → IsBlock code size block
+held_or_restored-is : (code : Shape) (size : ℕ) (block : List ℕ) (held : List Received) → IsCode code ⊎ (code.parity ≡ 0) → IsBlock code size block
     → AreOfBlock code size block held → (i : ℕ) → i < code.data
     → (o : Option Received) → find (λ (r : Received). r.head.index == i) held ≡ o
     → held_or_restored code size held i o ≡ shard_of size block i
-held_or_restored-is code size block held is is_block of_block i in_i (Some r) e =
+held_or_restored-is code size block held which is_block of_block i in_i (Some r) e =
     let found = find-some (λ (s : Received). s.head.index == i) (λ s. s.shard ≡ shard_of size block s.head.index) held r of_block.are e in
     found.1 ∙ ap (shard_of size block) (eqb-true r.head.index i found.0)
-held_or_restored-is code size block held is is_block of_block i in_i None e =
+held_or_restored-is code size block held (inl is) is_block of_block i in_i None e =
     let restored = restored_byte code held i in
     let restored_size : length (map restored (range_with_len 0 size)) ≡ size = length-map-range_with_len restored 0 size in
     ext_get_or 0 (map restored (range_with_len 0 size)) (shard_of size block i)
@@ -328,15 +363,16 @@ held_or_restored-is code size block held is is_block of_block i in_i None e =
     let in_k : k < size = omega arith in
     get_or-map-range_with_len restored 0 size k k 0 in_k (omega arith)
     ∙ restored_byte-is code size block held is is_block of_block i k in_i in_k)
+held_or_restored-is code size block held (inr bare) is_block of_block i in_i None e = absurd (data_held code size block held bare of_block i in_i e)
 
 -- whatever the block
 pub held_shards_fix : HeldShardsFixBlock
-held_shards_fix code size block held is is_block of_block i in_i =
-    held_or_restored-is code size block held is is_block of_block i in_i (find (λ (r : Received). r.head.index == i) held) refl
+held_shards_fix code size block held which is_block of_block i in_i =
+    held_or_restored-is code size block held which is_block of_block i in_i (find (λ (r : Received). r.head.index == i) held) refl
 
 -- so of a frame's block: its shards are one
 pub held_shards_hold : HeldShardsHoldBlock
-held_shards_hold code size shards held is are held_shards i in_i =
+held_shards_hold code size shards held which are held_shards i in_i =
     let block = with_parity_shards code size shards in
     let sizes = with_parity-sizes code size shards are in
     let count : length shards ≡ code.data = are.count in
@@ -352,7 +388,7 @@ held_shards_hold code size shards held is are held_shards i in_i =
           let e = held_shards.are j d h in
           sym (get_or_from_slice_get block r.head.index r.shard [] e) ∙ sym (shard_of-concat size block r.head.index sizes (in_block r e));
     } in
-    let fixed = held_shards_fix code size (concat block) held is (shards_form code size shards (inl is) are) of_block i in_i in
+    let fixed = held_shards_fix code size (concat block) held which (shards_form code size shards which are) of_block i in_i in
     slice_get-get_or shards i [] (omega arith)
     ∙ ap (λ (shard : List ℕ). Some shard)
     (sym (get_or_append_left shards (parity_shards code size shards) [] i (omega arith))

@@ -1,18 +1,14 @@
 -- What a block holds of which as many shards are there as it has data shards: the next payloads of its frame's
 -- image.
-use Rattle.std.proofs.Common.{◌≡◌, ◌≢◌, ◌<◌, ◌≤◌, ◌+◌, ◌*◌, ℕ, zero, suc, Bool, false, List, [], ◌∷◌, ◌++◌, length, get_or, take, drop, map, Option, Some, None, refl, sym, ap, ◌∙◌, arith, inl, inr}
+use Rattle.std.proofs.Common.{◌≡◌, ◌≢◌, ◌<◌, ◌≤◌, ◌+◌, ◌*◌, ℕ, zero, suc, List, [], ◌∷◌, ◌++◌, length, take, drop, map, Some, None, refl, sym, ap, ◌∙◌, arith, ◌⊎◌, inl, inr}
 use Rattle.std.specs.Prelude.{◌==◌}
-use Rattle.std.specs.List.{All, AllPairs, concat, find, slice_get, range_with_len}
+use Rattle.std.specs.List.{All, AllPairs, concat, slice_get, range_with_len}
 use Rattle.std.proofs.Math.Seq.{take-add}
-use Rattle.std.proofs.lemmas.Bool.{cases_Bool, cases_lt, cond-true, cond-false, eqb-true, eqb-false, eq-eqb}
-use Rattle.std.proofs.lemmas.Bool.Decides.{Decides-eqb}
+use Rattle.std.proofs.lemmas.Bool.{cases_lt, cond-true, eqb-true, eq-eqb}
 use Rattle.std.proofs.lemmas.List.{length-map, get_or-map, ext_get_or}
-use Rattle.std.proofs.lemmas.List.Elements.{All-nil, All-cons, All-map, All-weaker, All-contains}
+use Rattle.std.proofs.lemmas.List.Elements.{All-weaker}
 use Rattle.std.proofs.lemmas.List.FromFn.{length-map-range_with_len, get_or-map-range_with_len}
-use Rattle.std.proofs.lemmas.List.Kept.{AllPairs-cons}
-use Rattle.std.proofs.lemmas.Map.Made.{IsDistinct-from_AllPairs, is_member-Decides}
-use Rattle.std.proofs.lemmas.Map.Steps.{length-le_from_distinct_below}
-use Rattle.std.proofs.lemmas.Option.{slice_get_within, get_or_from_slice_get, cond_some}
+use Rattle.std.proofs.lemmas.Option.{get_or_from_slice_get, cond_some}
 use Rattle.gs_gf256.specs.Field.{IsByte}
 use Rattle.gs_rs.specs.declared.shape.Shape.{Shape}
 use Rattle.gs_rs.specs.Shape.{video_code, IsCode}
@@ -21,11 +17,11 @@ use Rattle.gs_rtp.specs.Stream.{StreamSettings}
 use Rattle.gs_rtp.specs.Video.{parity_count}
 use Rattle.gs_rtp.proofs.VideoHeads.{parity_count-zero}
 use Rattle.gs_frames.specs.Plan.{BlockPlan}
-use Rattle.gs_frames.specs.Datagrams.{packet_header, payload_of, shares, data_shards_from, with_parity_shards, Place, block_shards}
+use Rattle.gs_frames.specs.Datagrams.{packet_header, payload_of, shares, data_shards_from, Place, block_shards}
 use Rattle.gs_frames.specs.Received.{Received}
-use Rattle.gs_frames.specs.Complete.{block_shard, held_or_restored, code_of, block_payloads}
+use Rattle.gs_frames.specs.Complete.{block_shard, code_of, block_payloads}
 use Rattle.gs_frames.specs.RestoreLaws.{AreShardsOf}
-use Rattle.gs_frames.proofs.Restored.{parity_shards, length-with_parity, number_of, numbers_apart, find-some, slice_get-append_left, held_shards_hold}
+use Rattle.gs_frames.proofs.Restored.{held_shards_hold}
 use Rattle.gs_frames.proofs.PlanLimits.{IsWithinGrammar}
 use Rattle.gs_frames.proofs.ShardForms.{data_shards_of, are_data_shards}
 use Rattle.gs_frames.proofs.SentBlocks.{IsShardOf}
@@ -58,63 +54,16 @@ map-by_places g f d shards count each =
     ∙ ap g (sym (get_or_from_slice_get shards i (f i) [] (each i within)))
     ∙ sym (get_or-map g shards i [] [] (omega arith)))
 
--- ---- a block without parity
-
--- where none is found, all fail the test
-find-none : {X : Type 0} (test : X → Bool) (xs : List X) → find test xs ≡ None → All (λ x. test x ≡ false) xs
-find-none test [] e = All-nil (λ x. test x ≡ false)
-find-none test (x ∷ xs) e = elim (cases_Bool (test x)) [
-  | inl passes ↦ let found : Some x ≡ None = sym (cond-true (test x) (Some x) (find test xs) passes) ∙ e in cc
-  | inr fails ↦
-      All-cons (λ y. test y ≡ false) x xs fails
-      (find-none test xs (sym (cond-false (test x) (Some x) (find test xs) fails) ∙ e))
-]
-
--- numbers below d, no two the same, are no more than d
-distinct_below-few : (d : ℕ) (numbers : List ℕ) → AllPairs (λ m n. m ≢ n) numbers → All (λ n. n < d) numbers → length numbers ≤ d
-distinct_below-few d numbers apart below =
-    length-le_from_distinct_below numbers d (IsDistinct-from_AllPairs Decides-eqb numbers apart)
-    (λ q among. All-contains (λ n. n < d) numbers q below ((is_member-Decides Decides-eqb numbers q).0 among))
-
--- so d of them have each number below d
-none_missing : (d i : ℕ) (numbers : List ℕ) → AllPairs (λ m n. m ≢ n) numbers → All (λ n. n < d) numbers → length numbers ≡ d → i < d → All (λ n. i ≢ n) numbers → ⊥
-none_missing d i numbers apart below count within missing =
-    let few = distinct_below-few d (i ∷ numbers) (AllPairs-cons (λ m n. m ≢ n) i numbers missing apart) (All-cons (λ n. n < d) i numbers within below) in
-    absurd (omega arith)
-
--- where there is no parity, each data shard is held
-held_data : (code : Shape) (size : ℕ) (shards : List (List ℕ)) (held : List Received) → length shards ≡ code.data → code.parity ≡ 0
-    → AreShardsOf code size shards held → (i : ℕ) → i < code.data → (o : Option Received) → find (λ (r : Received). r.head.index == i) held ≡ o
-    → slice_get shards i ≡ Some (held_or_restored code size held i o)
-held_data code size shards held count bare held_shards i within (Some r) e =
-    let block = with_parity_shards code size shards in
-    let found = find-some (λ (s : Received). s.head.index == i) (λ s. slice_get block s.head.index ≡ Some s.shard) held r held_shards.are e in
-    let number : r.head.index ≡ i = eqb-true r.head.index i found.0 in
-    sym (slice_get-append_left shards (parity_shards code size shards) i (omega arith))
-    ∙ ap (slice_get block) (sym number) ∙ found.1
-held_data code size shards held count bare held_shards i within None e =
-    let block = with_parity_shards code size shards in
-    let missing = find-none (λ (r : Received). r.head.index == i) held e in
-    absurd (none_missing code.data i (map number_of held) (numbers_apart held held_shards.distinct)
-    (All-map (λ n. n < code.data) number_of held (λ j d h.
-    let r = get_or held j d in
-    let inside : r.head.index < length block = slice_get_within block r.head.index r.shard (held_shards.are j d h) in
-    omega (arith, length-with_parity code size shards count)))
-    (length-map held number_of ∙ held_shards.count) within
-    (All-map (λ n. i ≢ n) number_of held (λ j d h. λ same. eqb-false (get_or held j d).head.index i (missing j d h) (sym same))))
-
 -- ---- any block
 
--- a block with parity has a code
-code_of-plan : (plan : BlockPlan) → IsWithinGrammar plan → 0 < plan.percentage → IsCode (video_code plan.data_shards plan.parity_shards)
-code_of-plan plan h coded =
-    is_video_code plan.data_shards plan.parity_shards (omega (arith, h.shards_least)) (h.codable coded)
-
--- one without parity has no parity shards
-parity-zero : (plan : BlockPlan) → IsWithinGrammar plan → plan.percentage ≤ 0 → plan.parity_shards ≡ 0
-parity-zero plan h bare =
-    let zero_is : plan.percentage ≡ 0 = omega arith in
-    h.parity ∙ ap (parity_count plan.data_shards) zero_is ∙ parity_count-zero plan.data_shards
+-- a block with parity has a code, and one without has no parity shards
+code_or_bare : (plan : BlockPlan) → IsWithinGrammar plan → IsCode (video_code plan.data_shards plan.parity_shards) ⊎ (plan.parity_shards ≡ 0)
+code_or_bare plan h = elim (cases_lt 0 plan.percentage) [
+  | inl coded ↦ inl (is_video_code plan.data_shards plan.parity_shards (omega (arith, h.shards_least)) (h.codable coded))
+  | inr bare ↦
+      let zero_is : plan.percentage ≡ 0 = omega arith in
+      inr (h.parity ∙ ap (parity_count plan.data_shards) zero_is ∙ parity_count-zero plan.data_shards)
+]
 
 -- shards of a block, as many as its data shards, hold each of these
 block_shard-is : (s : StreamSettings) (plan : BlockPlan) (count : ℕ) (image : List ℕ) (held : List Received) → 16 ≤ s.packet → IsWithinGrammar plan
@@ -126,12 +75,7 @@ block_shard-is s plan count image held room within enough bytes held_shards i in
     let code = video_code plan.data_shards plan.parity_shards in
     let data_shards = data_shards_of s plan count image in
     let are = are_data_shards s plan count image room enough bytes in
-    elim (cases_lt 0 plan.percentage) [
-      | inl coded ↦ held_shards_hold code s.packet data_shards held (code_of-plan plan within coded) are held_shards i in_i
-      | inr bare ↦
-          held_data code s.packet data_shards held are.count (parity-zero plan within bare) held_shards i in_i
-          (find (λ (r : Received). r.head.index == i) held) refl
-    ]
+    held_shards_hold code s.packet data_shards held (code_or_bare plan within) are held_shards i in_i
 
 -- the payloads of a block by its code
 abbrev payloads_by : StreamSettings → List Received → Shape → ℕ → List ℕ

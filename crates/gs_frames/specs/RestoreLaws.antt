@@ -21,10 +21,11 @@ pub record AreDataShards (code : Shape) (size : ℕ) (shards : List (List ℕ)) 
   pub sizes : All (λ shard. length shard ≡ size) shards
   pub bytes : All (All IsByte) shards
 
--- any shards of a block, as many as it has data shards, hold each of its data shards
+-- Any shards of a block, as many as it has data shards, hold each of its data shards.
+-- (Without parity, of any number of data shards.)
 abbrev pub HeldShardsHoldBlock : Type 0
 HeldShardsHoldBlock =
-    (code : Shape) (size : ℕ) (shards : List (List ℕ)) (held : List Received) → IsCode code
+    (code : Shape) (size : ℕ) (shards : List (List ℕ)) (held : List Received) → IsCode code ⊎ (code.parity ≡ 0)
     → AreDataShards code size shards → AreShardsOf code size shards held
     → (i : ℕ) → i < code.data → slice_get shards i ≡ Some (block_shard code size held i)
 
@@ -43,7 +44,8 @@ pub record AreOfBlock (code : Shape) (size : ℕ) (block : List ℕ) (held : Lis
   pub are : All (λ r. r.shard ≡ shard_of size block r.head.index) held
 
 -- Whatever the block, the shards that a client holds or restores are that block's data shards.
+-- (Without parity, of any number of data shards.)
 abbrev pub HeldShardsFixBlock : Type 0
 HeldShardsFixBlock =
-    (code : Shape) (size : ℕ) (block : List ℕ) (held : List Received) → IsCode code → IsBlock code size block
+    (code : Shape) (size : ℕ) (block : List ℕ) (held : List Received) → IsCode code ⊎ (code.parity ≡ 0) → IsBlock code size block
     → AreOfBlock code size block held → (i : ℕ) → i < code.data → block_shard code size held i ≡ shard_of size block i
