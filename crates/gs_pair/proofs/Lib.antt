@@ -3,3 +3,4 @@ pub mod Asked
 pub mod Descent
 pub mod HandedLists
 pub mod Joined
+mod Examples
