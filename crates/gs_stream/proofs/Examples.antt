@@ -1,7 +1,5 @@
 -- The definitions at small histories, computed.
-use Rattle.std.proofs.Common.{ℕ, ◌≡◌, ◌+◌, ◌*◌, ◌<◌, List, [], ◌∷◌, codes, map, get_or, length, refl, sym, ap, ◌∙◌, replicate, arith}
-use Rattle.std.specs.List.{All, AllByRecursion, Contains}
-use Rattle.std.proofs.lemmas.List.Elements.{All-cons, All-nil, Contains-get_or}
+use Rattle.std.proofs.Common.{ℕ, ◌≡◌, ◌+◌, ◌*◌, List, [], ◌∷◌, codes, map, get_or, refl, sym, ap, ◌∙◌, replicate}
 use Rattle.gs_gf256.specs.Field.{product, polynomial_product, remainder, field_sum}
 use Rattle.gs_rtp.specs.Stream.{StreamSettings}
 use Rattle.gs_tape.specs.Tick.{Tick}
@@ -9,7 +7,6 @@ use Rattle.gs_refs.specs.declared.entry.Entry.{Entry}
 use Rattle.gs_refs.specs.declared.entry.Entry.TheVariants.{Sent, Invalid}
 use Rattle.gs_frames.specs.Image.{frame_image, frame_of}
 use Rattle.gs_frames.specs.Plan.{fec_plan}
-use Rattle.gs_refs.specs.Choice.{IsLegal}
 use Rattle.gs_frames.specs.Datagrams.{frame_datagrams}
 use Rattle.gs_frames.specs.Received.{received, counting}
 use Rattle.gs_frames.specs.Complete.{complete}
@@ -87,30 +84,6 @@ asked = refl
 
 captured : (unit_of capture five 5 ≡ replicate 4 81) × (reference_of five 5 ≡ 1)
 captured = (refl, refl)
-
-legal_four : IsLegal capture four
-legal_four =
-    let first : IsLegal capture (Sent 1 2 0 ∷ []) = (tt, refl, (omega arith, tick 1 [], refl, refl)) in
-    let second : IsLegal capture (Sent 2 1 1 ∷ Sent 1 2 0 ∷ []) = (first, refl, (omega arith, tick 2 (1 ∷ []), refl, refl)) in
-    let third : IsLegal capture (Sent 3 1 2 ∷ Sent 2 1 1 ∷ Sent 1 2 0 ∷ []) = (second, refl, (omega arith, tick 3 (1 ∷ 2 ∷ []), refl, refl)) in
-    (third, refl, (omega arith, tick 4 (1 ∷ 2 ∷ 3 ∷ []), refl, refl))
-
-legal : IsLegal capture five
-legal = ((legal_four, refl, (omega arith, omega arith, omega arith)), refl, (omega arith, tick 5 (1 ∷ 2 ∷ 3 ∷ 4 ∷ []), refl, refl))
-
-five_sent : length stream ≡ 5
-unfolding silent video_stream frame_datagrams fec_plan
-five_sent = refl
-
-were_sent : (ks : List ℕ) → AllByRecursion (λ k. k < 5) ks → All (Contains stream) (map (λ k. get_or stream k []) ks)
-were_sent [] below = All-nil (Contains stream)
-were_sent (k ∷ ks) below =
-    All-cons (Contains stream) (get_or stream k []) (map (λ k. get_or stream k []) ks)
-    (Contains-get_or stream k [] (omega (arith, five_sent, below.0)))
-    (were_sent ks below.1)
-
-paired : IsPaired silent capture five came
-paired = record { sent = were_sent (4 ∷ 3 ∷ 2 ∷ 0 ∷ []) (omega arith, (omega arith, (omega arith, (omega arith, tt)))); asked = ([], asked) }
 
 -- a range that the client didn't ask for has no part in it
 abbrev unasked : List Entry
