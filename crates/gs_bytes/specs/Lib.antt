@@ -1,3 +1,6 @@
 pub mod Field
 pub mod Memory
+pub mod NumberForms
+pub mod Numbers
 pub mod Outside
+pub mod Words

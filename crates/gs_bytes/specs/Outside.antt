@@ -9,18 +9,18 @@ use Rattle.gs_bytes.specs.declared.failed.Failed.TheVariants.{Fault, NoMemory}
 abbrev pub Rose : ℕ → ℕ → Type 0
 Rose before now = min (before + 1) (2 ^ 64 - 1) ≤ now
 
--- a read counts a fault that it answers, and nothing where it succeeds
+-- a read counts a fault that it answers, and nothing else
 abbrev pub IsCounted : ℕ → ℕ → Result ℕ Failed → Type 0
 IsCounted before now (Ok n) = now ≡ before
 IsCounted before now (Err Fault) = Rose before now
-IsCounted before now (Err NoMemory) = before ≤ now
+IsCounted before now (Err NoMemory) = now ≡ before
 
--- a write counts a fault that it answers, and a fault where it takes nothing
+-- a write counts a fault that it answers and one where it takes nothing, and nothing else
 abbrev pub IsCountedWrite : ℕ → ℕ → Result ℕ Failed → Type 0
 IsCountedWrite before now (Ok zero) = Rose before now
 IsCountedWrite before now (Ok (suc n)) = now ≡ before
 IsCountedWrite before now (Err Fault) = Rose before now
-IsCountedWrite before now (Err NoMemory) = before ≤ now
+IsCountedWrite before now (Err NoMemory) = now ≡ before
 
 -- a flag that is told stays as it was
 abbrev pub KeepsFlag : Option Bool → Option Bool → Type 0

@@ -28,7 +28,8 @@ pub trait Outside {
 /// A stream of bytes to read.
 pub trait Source: Outside {
     /// Moves the first n of the bytes that are left into the front of `into` and answers n, which
-    /// is 0 exactly at the end. A read that fails moves nothing.
+    /// is 0 exactly at the end. A read that fails moves nothing, and counts a fault unless it
+    /// failed for want of memory.
     fn read(&mut self, into: &mut [u8]) -> Result<usize, Failed>
         requires { 0 < length into.old }
         ensures bound { IfOk result (λ n. n ≤ length into.new) }
@@ -43,7 +44,8 @@ pub trait Source: Outside {
 /// A stream of bytes to write.
 pub trait Sink: Outside {
     /// Appends the first n bytes of `piece` to what is written and answers n. Taking none of them
-    /// counts as a fault. A write that fails appends nothing.
+    /// counts as a fault. A write that fails appends nothing, and counts a fault unless it failed
+    /// for want of memory.
     fn write(&mut self, piece: &[u8]) -> Result<usize, Failed>
         requires { 0 < length piece.now }
         ensures bound { IfOk result (λ n. n ≤ length piece.now) }

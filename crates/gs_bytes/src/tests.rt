@@ -113,3 +113,45 @@ fn a_source_is_read_up_to_a_bound(rt: HostRuntime) -> Result<(), Fail> {
 fn want_of_memory_is_passed_on(rt: HostRuntime) {
     assert!(rt; Failed::from(OutOfMemory) == Failed::NoMemory);
 }
+
+#[test]
+fn words_spell_numbers(rt: HostRuntime) {
+    for (word, most, number) in [
+        (b"0".as_slice(), 0, Some(0)),
+        (b"8192".as_slice(), 8_192, Some(8_192)),
+        (b"8193".as_slice(), 8_192, None),
+        (b"4294967295".as_slice(), u32::MAX, Some(u32::MAX)),
+        (b"4294967296".as_slice(), u32::MAX, None),
+        (b"".as_slice(), 9, None),
+        (b"00".as_slice(), 9, None),
+        (b"01".as_slice(), 9, None),
+        (b"+1".as_slice(), 9, None),
+        (b"1 ".as_slice(), 9, None),
+        (b"\xC3\xA9".as_slice(), 9, None),
+    ] {
+        assert_eq!(rt; parse_number(word, most), number);
+    }
+    for (word, number) in [
+        (b"32767".as_slice(), Some(32_767)),
+        (b"-32768".as_slice(), Some(-32_768)),
+        (b"0".as_slice(), Some(0)),
+        (b"32768".as_slice(), None),
+        (b"-32769".as_slice(), None),
+        (b"-0".as_slice(), None),
+        (b"-".as_slice(), None),
+    ] {
+        assert_eq!(rt; parse_signed(word), number);
+    }
+}
+
+#[test]
+fn spaces_part_words(rt: HostRuntime) {
+    let mut words = Words::of(b"key  1");
+    assert_eq!(rt; words.next_word(), Some(b"key".as_slice()));
+    assert_eq!(rt; words.next_word(), Some(b"".as_slice()));
+    assert_eq!(rt; words.next_word(), Some(b"1".as_slice()));
+    assert_eq!(rt; words.next_word(), None);
+    assert_eq!(rt; trim(b"  a b "), b"a b".as_slice());
+    assert_eq!(rt; trim_start(b"  a b "), b"a b ".as_slice());
+    assert_eq!(rt; trim_end(b"  "), b"".as_slice());
+}

@@ -1,6 +1,6 @@
 //! Whole texts through the traits.
 
-ghost use Rattle.std.specs.Prelude.{◌≡◌, ◌<◌, ◌≤◌, IfOk, IfSome, IsErrOf, OnErr, OnOk, length, take};
+ghost use Rattle.std.specs.Prelude.{◌≡◌, ◌≢◌, ◌<◌, ◌≤◌, IfOk, IfSome, IsErrOf, OnErr, OnOk, length, take};
 ghost use Rattle.std.specs.Io.KnownBytes.{Appends, Consumes, IsAtEnd, Keeps};
 ghost use Rattle.gs_bytes.specs.Outside.{AppendsPart, KeepsFlag, Rose, SetsFlag, TakesUpTo};
 
@@ -21,6 +21,7 @@ pub fn write_all<K: Sink>(out: &mut K, bytes: &[u8]) -> Result<(), Failed>
     ensures never_falls { K.faults out.old ≤ K.faults out.new }
     ensures fault { IsErrOf result Failed.Fault → Rose (K.faults out.old) (K.faults out.new) }
     ensures none_counted { OnOk result (K.faults out.new ≡ K.faults out.old) }
+    ensures counted { K.faults out.new ≢ K.faults out.old → result ≡ Err Failed.Fault }
 {
     let mut at = 0;
     while at < bytes.len() {
@@ -33,7 +34,8 @@ pub fn write_all<K: Sink>(out: &mut K, bytes: &[u8]) -> Result<(), Failed>
     Ok(())
 }
 
-/// Reads until the end, or until `most` bytes came. What was read before a failure is lost.
+/// Reads until the end, or until `most` bytes came. Memory for a read is
+/// taken before it. What was read before a failure is lost.
 pub fn read_up_to<S: Source>(alloc: Global, source: &mut S, most: usize) -> Result<Text, Failed>
     ensures bound { IfOk result (λ text. length text ≤ most) }
     ensures first { IfOk result (λ text. IfSome (S.left source.old) (λ xs. text ≡ take most xs)) }
@@ -49,11 +51,13 @@ pub fn read_up_to<S: Source>(alloc: Global, source: &mut S, most: usize) -> Resu
     ensures never_falls { S.faults source.old ≤ S.faults source.new }
     ensures fault { IsErrOf result Failed.Fault → Rose (S.faults source.old) (S.faults source.new) }
     ensures none_counted { OnOk result (S.faults source.new ≡ S.faults source.old) }
+    ensures counted { S.faults source.new ≢ S.faults source.old → result ≡ Err Failed.Fault }
 {
     let mut text = Vec::new(alloc);
     let mut chunk = [0u8; CHUNK];
     'reads: while text.len() < most {
         let room = CHUNK.min(most - text.len());
+        text.reserve(room)?;
         let n = source.read(&mut chunk[..room])?;
         if n == 0 {
             return Ok(Text::from_vec(text));

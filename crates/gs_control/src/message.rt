@@ -25,14 +25,16 @@ pub(crate) const PING: u16 = 0x0200;
 
 pub(crate) const IDR_REQUEST: u16 = 0x0302;
 
-/// A message of the control stream.
+/// A message of the control stream, in the form without encryption. A client sends the two that
+/// start a stream, pings and loss statistics on channel 0, `Invalidate` and `IdrRequest` on
+/// channel 1, keys on channel 2 and other input on channel 3.
 #[derive(Clone, Copy, Debug, PartialEq, Eq)]
 pub enum Message {
     /// The client's first message.
     StartA,
     /// The client's second message.
     StartB,
-    /// The client lost the frames from the first to the last.
+    /// The client lost the frames from the first to the last, by their numbers from 1.
     Invalidate { first: i64, last: i64 },
     /// Statistics of losses, which aren't looked at.
     LossStats,
@@ -40,7 +42,8 @@ pub enum Message {
     Input(Event),
     /// A gamepad is to rumble, which isn't looked at.
     Rumble,
-    /// The host ends the stream.
+    /// The host ends the stream: code 1 at the capture's end, 2 after a range of frames that weren't
+    /// sent.
     Termination { code: u32 },
     /// The client is still there.
     Ping,

@@ -1,4 +1,2 @@
-pub mod Numbers
-pub mod Split
 pub mod Keys
 pub mod Lines

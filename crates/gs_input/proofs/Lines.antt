@@ -1,5 +1,5 @@
 -- A line is its words joined, and its words are those that were joined.
-use Rattle.std.proofs.Common.{◌≡◌, ◌↔◌, ℕ, suc, ◌^◌, ◌<◌, Bool, false, eqb, List, [], ◌∷◌, All, Option, Some, None, ℤ, pos, negsuc, FitsSigned, w16, rules, refl, sym, ap, subst, ◌∙◌, arith}
+use Rattle.std.proofs.Common.{◌≡◌, ◌↔◌, ℕ, suc, ◌^◌, ◌<◌, false, List, [], ◌∷◌, All, Option, Some, None, ℤ, pos, negsuc, FitsSigned, w16, rules, refl, sym, ap, subst, ◌∙◌, arith}
 use Rattle.std.specs.Prelude.{codes, IfSome, IfNone}
 use Rattle.std.specs.List.{AllByRecursion}
 use Rattle.std.specs.Fmt.{decimal, signed_decimal}
@@ -12,11 +12,8 @@ use Rattle.std.proofs.lemmas.Str.Parse.{digit_from_value}
 use Rattle.gs_input.specs.declared.event.Event.{Event}
 use Rattle.gs_input.specs.declared.event.Event.TheVariants.{KeyDown, KeyUp, Move, At, Press, Release, Scroll, Unknown}
 use Rattle.gs_input.specs.Event.{FitsTypes, IsKnown}
-use Rattle.gs_input.specs.Words.{words_of, line_of}
+use Rattle.gs_bytes.specs.Words.{is_space, words_of, line_of}
 use Rattle.gs_input.specs.Line.{name_of, arguments_of, event_line, HasArguments, AreWords, IsLine}
-
-abbrev is_space : ℕ → Bool
-is_space byte = eqb byte 32
 
 -- no byte of the word is a space
 abbrev Lacks : List ℕ → Type 0

@@ -4,7 +4,7 @@ use Rattle.std.specs.Fmt.{decimal, signed_decimal}
 use Rattle.gs_input.specs.declared.event.Event.{Event}
 use Rattle.gs_input.specs.declared.event.Event.TheVariants.{KeyDown, KeyUp, Move, At, Press, Release, Scroll, Unknown}
 use Rattle.gs_input.specs.Event.{FitsTypes, IsEvent}
-use Rattle.gs_input.specs.Words.{line_of}
+use Rattle.gs_bytes.specs.Words.{line_of}
 
 -- the first word
 abbrev pub name_of : Event → List ℕ

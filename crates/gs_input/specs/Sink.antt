@@ -1,6 +1,6 @@
 -- What putting an event does to the list of the events that were put, where it is told, and to the
 -- count of faults.
-use Rattle.std.specs.Prelude.{◌≡◌, ◌≤◌, ℕ, List, [], ◌∷◌, ◌++◌, Option, None, Some, Result, Ok, Err, ⊤}
+use Rattle.std.specs.Prelude.{◌≡◌, ℕ, List, [], ◌∷◌, ◌++◌, Option, None, Some, Result, Ok, Err, ⊤}
 use Rattle.gs_bytes.specs.declared.failed.Failed.{Failed}
 use Rattle.gs_bytes.specs.declared.failed.Failed.TheVariants.{Fault, NoMemory}
 use Rattle.gs_bytes.specs.Outside.{Rose}
@@ -18,11 +18,11 @@ Puts None now result input = ⊤
 Puts (Some before) now (Ok done) input = Tells now (before ++ input ∷ [])
 Puts (Some before) now (Err e) input = Tells now before
 
--- a put counts a fault that it answers, and nothing where it succeeds
+-- a put counts a fault that it answers, and nothing else
 abbrev pub IsCountedPut : ℕ → ℕ → Result (Unit {0}) Failed → Type 0
 IsCountedPut before now (Ok done) = now ≡ before
 IsCountedPut before now (Err Fault) = Rose before now
-IsCountedPut before now (Err NoMemory) = before ≤ now
+IsCountedPut before now (Err NoMemory) = now ≡ before
 
 -- events in memory, with calls that are to fail
 pub record FailingInput : Type 0 where

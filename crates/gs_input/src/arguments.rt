@@ -6,15 +6,14 @@ ghost use Rattle.gs_input.specs.Line.{HasArguments};
 ghost use Rattle.gs_input.specs.Words.{TakesNumber, TakesSigned};
 
 use crate::event::Event;
-use crate::number::{read_byte, read_signed};
-use crate::words::Words;
+use gs_bytes::{Words, parse_number, parse_signed};
 
 /// Takes a signed number.
 fn next_signed(words: &mut Words<'_>) -> Option<i16>
     ensures found { IfSome result (λ number. TakesSigned words.old number words.new) }
     ensures none { IfNone result ((number : ℤ) (rest : List (List ℕ)) → TakesSigned words.old number rest → ⊥) }
 {
-    read_signed(words.next_word()?)
+    parse_signed(words.next_word()?)
 }
 
 /// Takes a number of 8 bits.
@@ -22,7 +21,7 @@ fn next_byte(words: &mut Words<'_>) -> Option<u8>
     ensures found { IfSome result (λ number. TakesNumber (2 ^ 8) words.old number words.new) }
     ensures none { IfNone result ((number : ℕ) (rest : List (List ℕ)) → TakesNumber (2 ^ 8) words.old number rest → ⊥) }
 {
-    read_byte(words.next_word()?)
+    u8::try_from(parse_number(words.next_word()?, 255)?).ok()
 }
 
 fn is_empty(mut words: Words<'_>) -> bool

@@ -10,6 +10,11 @@ use gs_bytes::read_u32_le;
 use thiserror::Error;
 
 /// What a user did at the client.
+///
+/// A `code` is a key's code as GameStream sends it, a Windows virtual-key code with bit 0x8000 set.
+/// `modifiers` are the keys held with it: 1 Shift, 2 Ctrl, 4 Alt, 8 Meta. Buttons are 1 left,
+/// 2 middle, 3 right, and 4 and 5 on the side. Places and ways of the pointer are in pixels, to the
+/// right and down.
 #[derive(Clone, Copy, Debug, PartialEq, Eq)]
 pub enum Event {
     /// A key was pressed.
@@ -42,11 +47,11 @@ pub enum Event {
     Release {
         button: u8,
     },
-    /// The wheel was turned.
+    /// The wheel was turned, by 120 a notch; above 0 is away from the user.
     Scroll {
         amount: i16,
     },
-    /// An event of a kind that isn't among these.
+    /// An event of a kind that isn't among these, with the number of its kind.
     Unknown {
         magic: u32,
     },

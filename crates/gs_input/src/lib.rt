@@ -12,12 +12,10 @@ mod event;
 mod laws;
 mod line;
 mod mem_input;
-mod number;
 mod packet;
 mod pressed;
 mod sink;
 mod sure_input;
-mod words;
 
 pub use event::{BadEvent, Event};
 pub use laws::{
@@ -26,11 +24,9 @@ pub use laws::{
 };
 pub use line::{read_arguments, read_line, write_line};
 pub use mem_input::MemInput;
-pub use number::{read_byte, read_number, read_signed};
 pub use pressed::Pressed;
 pub use sink::{Input, InputSink};
 pub use sure_input::SureInput;
-pub use words::Words;
 
 #[cfg(test)]
 mod tests;

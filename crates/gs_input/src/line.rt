@@ -7,8 +7,7 @@ ghost use Rattle.gs_input.specs.Line.{AreWords, IsLine, event_line};
 
 use crate::arguments::{button_words, key_words, move_words, place_words, scroll_words};
 use crate::event::Event;
-use crate::words::Words;
-use gs_bytes::{OutOfMemory, Text};
+use gs_bytes::{OutOfMemory, Text, Words};
 use std::alloc::Global;
 use std::fmt;
 

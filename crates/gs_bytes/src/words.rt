@@ -22,7 +22,7 @@ pub struct Words<'a> {
 impl<'a> Model for Words<'a> {
     ghost use Rattle.std.specs.Prelude.{ℕ, List, []};
     ghost use Rattle.std.specs.Option.{option_copied, option_map_or};
-    ghost use Rattle.gs_input.specs.Words.{words_of};
+    ghost use Rattle.gs_bytes.specs.Words.{words_of};
 
     ghost Value = { List (List ℕ) };
 
@@ -30,7 +30,7 @@ impl<'a> Model for Words<'a> {
 }
 
 impl<'a> Words<'a> {
-    ghost use Rattle.gs_input.specs.Words.{words_of};
+    ghost use Rattle.gs_bytes.specs.Words.{words_of};
 
     /// All words of the line.
     pub fn of(line: &'a [u8]) -> Words<'a>

@@ -1,9 +1,9 @@
 use Rattle.std.proofs.Common.{List, [], Option, ℕ, Bor, ap, sym, ◌∙◌}
 use Rattle.std.specs.Option.{option_copied, option_map_or}
 use Rattle.std.proofs.lemmas.List.{take_rest}
-use Rattle.gs_input.specs.Words.{words_of}
-use Rattle.gs_input.proofs.Split.{words_split, words_single}
-use Rattle.gs_input.proofs.words.Words.next_word.Goals as goal
+use Rattle.gs_bytes.specs.Words.{words_of}
+use Rattle.gs_bytes.proofs.WordLemmas.{words_split, words_single}
+use Rattle.gs_bytes.proofs.words.Words.next_word.Goals as goal
 
 pub returns-in-Some : goal.returns-in-Some
 returns-in-Some c =

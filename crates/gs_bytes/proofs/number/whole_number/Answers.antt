@@ -1,7 +1,7 @@
 use Rattle.std.proofs.Common.{ℕ, List, refl, subst}
 use Rattle.std.specs.Str.Parse.{ParsesUnsigned}
-use Rattle.gs_input.proofs.Numbers.{parsed_is_spelled, not_plain_spells_none, not_text_spells_none, kept, dropped, none_is_spelled}
-use Rattle.gs_input.proofs.number.read_number.Goals as goal
+use Rattle.gs_bytes.proofs.NumberLemmas.{parsed_is_spelled, not_plain_spells_none, not_text_spells_none, kept, dropped, none_is_spelled}
+use Rattle.gs_bytes.proofs.number.whole_number.Goals as goal
 
 pub returns-then-not-begins_plainly : goal.returns-then-not-begins_plainly
 returns-then-not-begins_plainly c = none_is_spelled c.args.word.now _ refl (not_plain_spells_none c.args.word.now (cc))
