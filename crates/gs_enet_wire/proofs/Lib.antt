@@ -5,5 +5,6 @@ pub mod Datagrams
 pub mod Readers
 pub mod Faults
 pub mod HeaderReaders
+pub mod NotNeither
 pub mod OneReading
 pub mod Writers

@@ -2,7 +2,7 @@
 use Rattle.std.proofs.Common.{◌≡◌, ℕ, ◌/◌, ◌%◌, Bool, true, false, List, ◌∷◌, ◌++◌, length, take, drop, refl, sym, ap, ◌∙◌, append_assoc, arith}
 use Rattle.std.proofs.lemmas.List.{take_at, drop_at}
 use Rattle.gs_enet_wire.specs.declared.command.Command.{Command}
-use Rattle.gs_enet_wire.specs.declared.head.Head.{Head}
+use Rattle.gs_enet_wire.specs.declared.command.Head.{Head}
 use Rattle.gs_enet_wire.specs.Grammar.{head_of, head, kind, fields, payload, all_fields, after_first, asking, IsCommand, fields_bytes}
 use Rattle.gs_enet_wire.proofs.FieldLemmas.{widths, values, fields_same}
 use Rattle.gs_enet_wire.proofs.Table.{widths_of, data_length, widths-fields, length-payload, same_from_parts}

@@ -4,7 +4,7 @@ use Rattle.std.specs.Prelude.{IfOk, IfErr, is_some}
 use Rattle.gs_enet_wire.specs.declared.datagram.Datagram.{Datagram}
 use Rattle.gs_enet_wire.specs.declared.error.WireError.{WireError}
 use Rattle.gs_enet_wire.specs.declared.error.WireError.TheVariants.{BadDatagram, OutOfMemory}
-use Rattle.gs_enet_wire.specs.declared.read_header.Header.{Header}
+use Rattle.gs_enet_wire.specs.declared.reading.Header.{Header}
 use Rattle.gs_enet_wire.specs.Grammar.{most_bytes, header_length, Spells, StopsAt, IsFault, IsFaultAt}
 use Rattle.gs_enet_wire.specs.ReadingHeader.{TakesHeader, StopsWith, with_header}
 use Rattle.gs_enet_wire.proofs.Datagrams.{headed, not_both, one_value, one_place}

@@ -2,7 +2,7 @@
 use Rattle.std.proofs.Common.{Bool, true, ◌≡◌, ℕ, ◌^◌, ◌<◌, List, [], ◌∷◌, ◌++◌, refl, sym, ap, ◌∙◌}
 use Rattle.std.proofs.lemmas.List.{append-nil}
 use Rattle.gs_enet_wire.specs.declared.command.Command.{Command}
-use Rattle.gs_enet_wire.specs.declared.head.Head.{Head}
+use Rattle.gs_enet_wire.specs.declared.command.Head.{Head}
 use Rattle.gs_enet_wire.specs.Grammar.{Field, fields_bytes, field_bytes, u8, u16, IsFirst, after_first, kind, head}
 use Rattle.gs_enet_wire.specs.Reading.{Takes, TakesHead, TakesBody, TakesCommand}
 

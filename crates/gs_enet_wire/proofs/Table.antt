@@ -3,7 +3,7 @@ use Rattle.std.proofs.Common.{◌≡◌, ℕ, List, [], ◌∷◌, length, refl,
 use Rattle.std.specs.Prelude.{◌==◌, if◌then◌else◌}
 use Rattle.gs_enet_wire.specs.declared.command.Command.{Command}
 use Rattle.gs_enet_wire.specs.declared.command.Command.TheVariants as command
-use Rattle.gs_enet_wire.specs.declared.head.Head.{Head}
+use Rattle.gs_enet_wire.specs.declared.command.Head.{Head}
 use Rattle.gs_enet_wire.specs.Grammar.{head, kind, fields, payload}
 use Rattle.gs_enet_wire.proofs.FieldLemmas.{widths, values}
 

@@ -4,7 +4,7 @@ use Rattle.std.specs.List.{flat_map, AllByRecursion}
 use Rattle.gs_bytes.specs.Field.{be_bytes, be_value}
 use Rattle.gs_enet_wire.specs.declared.command.Command.{Command}
 use Rattle.gs_enet_wire.specs.declared.command.Command.TheVariants as command
-use Rattle.gs_enet_wire.specs.declared.head.Head.{Head}
+use Rattle.gs_enet_wire.specs.declared.command.Head.{Head}
 use Rattle.gs_enet_wire.specs.declared.datagram.Datagram.{Datagram}
 use Rattle.gs_enet_wire.specs.declared.error.WireError.{WireError}
 use Rattle.gs_enet_wire.specs.declared.error.WireError.TheVariants.{BadDatagram, OutOfMemory}

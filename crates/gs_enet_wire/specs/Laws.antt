@@ -1,5 +1,6 @@
 -- What holds of the grammar.
-use Rattle.std.specs.Prelude.{◌≡◌, ℕ, List}
+use Rattle.std.specs.Prelude.{◌≡◌, ℕ, ◌<◌, ◌^◌, List}
+use Rattle.std.specs.List.{AllByRecursion}
 use Rattle.gs_enet_wire.specs.declared.datagram.Datagram.{Datagram}
 use Rattle.gs_enet_wire.specs.Grammar.{Spells, IsFaultAt, IsWritable, spelling}
 
@@ -14,6 +15,10 @@ OnePlace = (bytes : List ℕ) (place other : ℕ) → IsFaultAt bytes place → 
 -- bytes that spell a datagram have no fault
 abbrev pub NotBoth : Type 0
 NotBoth = (bytes : List ℕ) (d : Datagram) (place : ℕ) → Spells bytes d → IsFaultAt bytes place → ⊥
+
+-- any bytes spell a datagram or have a fault
+abbrev pub NotNeither : Type 0
+NotNeither = (bytes : List ℕ) → AllByRecursion (λ b. b < 2 ^ 8) bytes → ((d : Datagram) → Spells bytes d → ⊥) → ((place : ℕ) → IsFaultAt bytes place → ⊥) → ⊥
 
 -- the spelling of what can be written spells it
 abbrev pub ReadAgain : Type 0

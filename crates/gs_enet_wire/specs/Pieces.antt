@@ -1,6 +1,6 @@
--- The numbers of a fragment as fields.
+-- Cited by private contracts alone: the numbers of a fragment as fields.
 use Rattle.std.specs.Prelude.{List, [], ◌∷◌}
-use Rattle.gs_enet_wire.specs.declared.piece.Piece.{Piece}
+use Rattle.gs_enet_wire.specs.declared.read_body.Piece.{Piece}
 use Rattle.gs_enet_wire.specs.Grammar.{Field, u16, u32}
 
 abbrev pub piece_fields : Piece → List Field

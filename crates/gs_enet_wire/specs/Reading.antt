@@ -1,8 +1,8 @@
--- What a reader takes from the front of the bytes.
+-- Cited by private contracts alone: what a reader takes from the front of the bytes.
 use Rattle.std.specs.Prelude.{◌≡◌, ℕ, ◌/◌, ◌%◌, ◌<◌, List, [], ◌∷◌, ◌++◌, Bool}
 use Rattle.gs_enet_wire.specs.declared.command.Command.{Command}
 use Rattle.gs_enet_wire.specs.declared.command.Connect.{Connect}
-use Rattle.gs_enet_wire.specs.declared.head.Head.{Head}
+use Rattle.gs_enet_wire.specs.declared.command.Head.{Head}
 use Rattle.gs_enet_wire.specs.Grammar.{Field, u8, u16, u32, fields_bytes, Fit, head, kind, fields, payload, asking, IsCommand}
 
 -- the old bytes are those fields and then the new bytes

@@ -1,10 +1,10 @@
--- What a reader takes of a header, and of all the commands.
+-- Cited by private contracts alone: what a reader takes of a header, and of all the commands.
 use Rattle.std.specs.Prelude.{◌≡◌, ℕ, ◌/◌, Bool, List, [], ◌++◌, Option, is_some}
 use Rattle.gs_enet_wire.specs.declared.command.Command.{Command}
 use Rattle.gs_enet_wire.specs.declared.datagram.Datagram.{Datagram}
 use Rattle.gs_enet_wire.specs.declared.error.WireError.{WireError}
 use Rattle.gs_enet_wire.specs.declared.error.WireError.TheVariants.{BadDatagram, OutOfMemory}
-use Rattle.gs_enet_wire.specs.declared.read_header.Header.{Header}
+use Rattle.gs_enet_wire.specs.declared.reading.Header.{Header}
 use Rattle.gs_enet_wire.specs.Grammar.{fields_bytes, Fit, asking, sent_field, header, HasHeader, AreCommands, StopsAt}
 
 -- the old bytes are the sent time, where the header's first two bytes say that there is one, and then the new bytes

@@ -76,10 +76,9 @@ impl<'a> Cursor<'a> {
         ensures count { IfOk result (λ front. length front.now ≡ count) }
         ensures cut { OnErr result (length self.old < count) }
     {
-        if self.rest.len() < count {
+        let Some((front, rest)) = self.rest.split_at_checked(count) else {
             return Err(ReadError::Malformed);
-        }
-        let (front, rest) = self.rest.split_at(count);
+        };
         self.rest = rest;
         Ok(front)
     }

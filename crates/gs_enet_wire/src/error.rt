@@ -1,12 +1,15 @@
 //! Why a datagram could not be read.
 
 use std::alloc::AllocFailed;
+use thiserror::Error;
 
 /// Why bytes are no datagram.
-#[derive(Clone, Copy, Debug, PartialEq, Eq)]
+#[derive(Clone, Copy, Debug, PartialEq, Eq, Error)]
 pub enum WireError {
-    /// The place of the first fault.
+    /// The place of the first fault, in bytes from the front.
+    #[error("no ENet datagram: at byte {0}")]
     BadDatagram(usize),
+    #[error("out of memory")]
     OutOfMemory,
 }
 

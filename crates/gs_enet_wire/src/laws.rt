@@ -1,12 +1,13 @@
 //! Laws of the grammar.
 
-ghost use Rattle.gs_enet_wire.specs.Laws.{OneValue, OnePlace, NotBoth, ReadAgain, OneSpelling};
+ghost use Rattle.gs_enet_wire.specs.Laws.{OneValue, OnePlace, NotBoth, NotNeither, ReadAgain, OneSpelling};
 
-/// Bytes have one reading: one datagram, or one place of a fault.
+/// Bytes have exactly one reading: one datagram, or one place of a fault.
 pub fn one_reading()
     ensures value { OneValue }
     ensures place { OnePlace }
     ensures not_both { NotBoth }
+    ensures not_neither { NotNeither }
 {}
 
 /// What was written is read again as the same datagram.

@@ -7,25 +7,17 @@
 #![tactic(auto)]
 
 mod command;
-mod commands;
 mod cursor;
 mod datagram;
 mod error;
-mod head;
 mod laws;
-mod pen;
-mod piece;
 mod read_body;
-mod read_command;
-mod read_data;
-mod read_header;
 mod reading;
 mod write_fields;
 mod writing;
 
 pub use command::{Command, Connect};
-pub use commands::Commands;
-pub use datagram::Datagram;
+pub use datagram::{Commands, Datagram};
 pub use error::WireError;
 pub use laws::{one_reading, one_spelling, written_is_read};
 pub use reading::read;

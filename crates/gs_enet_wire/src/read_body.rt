@@ -3,10 +3,24 @@
 ghost use Rattle.std.specs.Prelude.{◌≡◌, ◌<◌, ◌++◌, [], ◌∷◌, length, IfOk, OnErr, IsErrOf};
 ghost use Rattle.gs_enet_wire.specs.Grammar.{u16, u32};
 ghost use Rattle.gs_enet_wire.specs.Reading.{Takes, TakesBody, BeginsNoBody, shared_fields};
+ghost use Rattle.gs_enet_wire.specs.Pieces.{piece_fields};
 
+use crate::command::Head;
 use crate::cursor::{Cursor, ReadError};
-use crate::head::Head;
 use crate::{Command, Connect};
+use std::alloc::Global;
+
+/// The numbers of a fragment of a message, in the order in which they stand.
+#[derive(Clone, Copy)]
+pub struct Piece {
+    pub start: u16,
+    /// The number of bytes of data in this fragment.
+    pub length: u16,
+    pub count: u32,
+    pub fragment: u32,
+    pub total: u32,
+    pub offset: u32,
+}
 
 pub fn acknowledge(head: Head, cursor: &mut Cursor<'_>) -> Result<Command, ReadError>
     ensures taken { IfOk result (λ c. TakesBody 1 head c cursor.old cursor.new) }
@@ -138,5 +152,113 @@ pub fn throttle(head: Head, cursor: &mut Cursor<'_>) -> Result<Command, ReadErro
         interval,
         acceleration,
         deceleration,
+    })
+}
+
+pub fn reliable(alloc: Global, head: Head, cursor: &mut Cursor<'_>) -> Result<Command, ReadError>
+    ensures taken { IfOk result (λ c. TakesBody 6 head c cursor.old cursor.new) }
+    ensures refused { IsErrOf result ReadError.Malformed → BeginsNoBody 6 cursor.old }
+{
+    let length = cursor.u16()?;
+    let bytes = cursor.text(alloc, length)?;
+    Ok(Command::Reliable {
+        channel: head.channel,
+        number: head.number,
+        asks: head.asks,
+        bytes,
+    })
+}
+
+pub fn unreliable(alloc: Global, head: Head, cursor: &mut Cursor<'_>) -> Result<Command, ReadError>
+    ensures taken { IfOk result (λ c. TakesBody 7 head c cursor.old cursor.new) }
+    ensures refused { IsErrOf result ReadError.Malformed → BeginsNoBody 7 cursor.old }
+{
+    let unreliable = cursor.u16()?;
+    let length = cursor.u16()?;
+    let bytes = cursor.text(alloc, length)?;
+    Ok(Command::Unreliable {
+        channel: head.channel,
+        number: head.number,
+        asks: head.asks,
+        unreliable,
+        bytes,
+    })
+}
+
+pub fn unsequenced(alloc: Global, head: Head, cursor: &mut Cursor<'_>) -> Result<Command, ReadError>
+    ensures taken { IfOk result (λ c. TakesBody 9 head c cursor.old cursor.new) }
+    ensures refused { IsErrOf result ReadError.Malformed → BeginsNoBody 9 cursor.old }
+{
+    let group = cursor.u16()?;
+    let length = cursor.u16()?;
+    let bytes = cursor.text(alloc, length)?;
+    Ok(Command::Unsequenced {
+        channel: head.channel,
+        number: head.number,
+        asks: head.asks,
+        group,
+        bytes,
+    })
+}
+
+fn piece_of(cursor: &mut Cursor<'_>) -> Result<Piece, ReadError>
+    ensures taken { IfOk result (λ p. Takes (piece_fields p) cursor.old cursor.new) }
+    ensures cut { OnErr result (length cursor.old < 20) }
+{
+    let start = cursor.u16()?;
+    let length = cursor.u16()?;
+    let count = cursor.u32()?;
+    let fragment = cursor.u32()?;
+    let total = cursor.u32()?;
+    let offset = cursor.u32()?;
+    Ok(Piece {
+        start,
+        length,
+        count,
+        fragment,
+        total,
+        offset,
+    })
+}
+
+pub fn fragment(alloc: Global, head: Head, cursor: &mut Cursor<'_>) -> Result<Command, ReadError>
+    ensures taken { IfOk result (λ c. TakesBody 8 head c cursor.old cursor.new) }
+    ensures refused { IsErrOf result ReadError.Malformed → BeginsNoBody 8 cursor.old }
+{
+    let piece = piece_of(cursor)?;
+    let bytes = cursor.text(alloc, piece.length)?;
+    Ok(Command::Fragment {
+        channel: head.channel,
+        number: head.number,
+        asks: head.asks,
+        start: piece.start,
+        count: piece.count,
+        fragment: piece.fragment,
+        total: piece.total,
+        offset: piece.offset,
+        bytes,
+    })
+}
+
+pub fn unreliable_fragment(
+    alloc: Global,
+    head: Head,
+    cursor: &mut Cursor<'_>,
+) -> Result<Command, ReadError>
+    ensures taken { IfOk result (λ c. TakesBody 12 head c cursor.old cursor.new) }
+    ensures refused { IsErrOf result ReadError.Malformed → BeginsNoBody 12 cursor.old }
+{
+    let piece = piece_of(cursor)?;
+    let bytes = cursor.text(alloc, piece.length)?;
+    Ok(Command::UnreliableFragment {
+        channel: head.channel,
+        number: head.number,
+        asks: head.asks,
+        start: piece.start,
+        count: piece.count,
+        fragment: piece.fragment,
+        total: piece.total,
+        offset: piece.offset,
+        bytes,
     })
 }

@@ -1,15 +1,141 @@
-//! A datagram, read from all of the bytes.
+//! A datagram, read from all of the bytes: its header, and command after command.
 
-ghost use Rattle.std.specs.Prelude.{◌≡◌, ◌⊎◌, ℕ, ◌+◌, ◌<◌, ◌≤◌, length, Ok, Err, IfOk, IfErr, OnOk, OnErr};
+ghost use Rattle.std.specs.Prelude.{◌≡◌, ◌+◌, ◌*◌, ◌/◌, ◌<◌, ◌≤◌, length, IfOk, IfErr, OnOk, OnErr, IsErrOf, ◌⊎◌, ℕ, Ok, Err};
+ghost use Rattle.gs_enet_wire.specs.Grammar.{IsFault, most_bytes, BeginsNoCommand, Spells, IsFaultAt, AreCommands, spelling};
+ghost use Rattle.gs_enet_wire.specs.ReadingHeader.{TakesTime, TakesHeader, StopsWith};
+ghost use Rattle.gs_enet_wire.specs.Reading.{TakesHead, TakesBody, BeginsNoBody, TakesCommand};
 ghost use Rattle.gs_enet_wire.specs.declared.datagram.Datagram.{Datagram};
-ghost use Rattle.gs_enet_wire.specs.Grammar.{most_bytes, Spells, IsFault, IsFaultAt, AreCommands, spelling};
-ghost use Rattle.gs_enet_wire.specs.ReadingHeader.{StopsWith};
 
+use crate::command::{
+    ACKNOWLEDGE, ASKS, BANDWIDTH, CONNECT, DISCONNECT, FRAGMENT, Head, KIND, PING, RELIABLE,
+    THROTTLE, UNRELIABLE, UNRELIABLE_FRAGMENT, UNSEQUENCED, VERIFY_CONNECT,
+};
 use crate::cursor::{Cursor, ReadError};
-use crate::read_command::read_command;
-use crate::read_header::read_header;
-use crate::{Commands, Datagram, WireError};
+use crate::{Command, Commands, Datagram, WireError, read_body};
 use std::alloc::{AllocFailed, Global};
+
+/// The bits of the first two bytes that hold the peer id.
+pub const PEER: u16 = 0x0FFF;
+/// The session stands above the peer id, in two bits.
+pub const SESSION_SHIFT: u32 = 12;
+
+pub const SESSION: u16 = 3;
+/// The bit that says that the commands are compressed.
+pub const COMPRESSED: u16 = 0x4000;
+/// The bit that says that a sent time follows.
+pub const SENT_TIME: u16 = 0x8000;
+/// Where the sent time stands.
+const TIME_PLACE: usize = 2;
+
+/// What stands before the commands.
+#[derive(Clone, Copy)]
+pub struct Header {
+    pub peer: u16,
+    pub session: u8,
+    pub sent: Option<u16>,
+}
+
+/// The sent time, where the header's first two bytes say that there is one.
+fn sent_time(word: u16, cursor: &mut Cursor<'_>) -> Result<Option<u16>, ReadError>
+    ensures taken { IfOk result (λ sent. TakesTime word sent cursor.old cursor.new) }
+    ensures cut { OnErr result (length cursor.old < 2) }
+    ensures timed { OnErr result (32768 ≤ word) }
+{
+    if word & SENT_TIME == 0 {
+        return Ok(None);
+    }
+    let time = cursor.u16()?;
+    Ok(Some(time))
+}
+
+pub fn read_header(cursor: &mut Cursor<'_>) -> Result<Header, WireError>
+    ensures taken { IfOk result (λ h. TakesHeader h cursor.old cursor.new) }
+    ensures fault { length cursor.old ≤ most_bytes → IfErr result (IsFault cursor.old) }
+{
+    let Ok(word) = cursor.u16() else {
+        return Err(WireError::BadDatagram(0));
+    };
+    if word & COMPRESSED != 0 {
+        return Err(WireError::BadDatagram(0));
+    }
+    let Ok(sent) = sent_time(word, cursor) else {
+        return Err(WireError::BadDatagram(TIME_PLACE));
+    };
+    Ok(Header {
+        peer: word & PEER,
+        session: ((word >> SESSION_SHIFT) & SESSION) as u8,
+        sent,
+    })
+}
+
+/// What stands behind the head of a command of that kind.
+fn body(alloc: Global, kind: u8, head: Head, cursor: &mut Cursor<'_>) -> Result<Command, ReadError>
+    ensures taken { IfOk result (λ c. TakesBody kind head c cursor.old cursor.new) }
+    ensures refused { IsErrOf result ReadError.Malformed → BeginsNoBody kind cursor.old }
+{
+    match kind {
+        ACKNOWLEDGE => read_body::acknowledge(head, cursor),
+        CONNECT => read_body::connect(head, cursor),
+        VERIFY_CONNECT => read_body::verify_connect(head, cursor),
+        DISCONNECT => read_body::disconnect(head, cursor),
+        PING => Ok(Command::Ping {
+            channel: head.channel,
+            number: head.number,
+            asks: head.asks,
+        }),
+        RELIABLE => read_body::reliable(alloc, head, cursor),
+        UNRELIABLE => read_body::unreliable(alloc, head, cursor),
+        FRAGMENT => read_body::fragment(alloc, head, cursor),
+        UNSEQUENCED => read_body::unsequenced(alloc, head, cursor),
+        BANDWIDTH => read_body::bandwidth(head, cursor),
+        THROTTLE => read_body::throttle(head, cursor),
+        UNRELIABLE_FRAGMENT => read_body::unreliable_fragment(alloc, head, cursor),
+        _ => Err(ReadError::Malformed),
+    }
+}
+
+/// A command's kind and head.
+#[derive(Clone, Copy)]
+struct Start {
+    kind: u8,
+    head: Head,
+}
+
+fn start_of(cursor: &mut Cursor<'_>) -> Result<Start, ReadError>
+    ensures taken { IfOk result (λ s. TakesHead s.kind s.head cursor.old cursor.new) }
+    ensures cut { OnErr result (length cursor.old < 4) }
+{
+    let first = cursor.u8()?;
+    let channel = cursor.u8()?;
+    let number = cursor.u16()?;
+    let asks = first & ASKS != 0;
+    let head = Head {
+        channel,
+        number,
+        asks,
+    };
+    Ok(Start {
+        kind: first & KIND,
+        head,
+    })
+}
+
+/// The command at the front, in a datagram that has a sent time or has none.
+pub fn read_command(
+    alloc: Global,
+    timed: bool,
+    cursor: &mut Cursor<'_>,
+) -> Result<Command, ReadError>
+    ensures taken { IfOk result (λ c. TakesCommand timed c cursor.old cursor.new) }
+    ensures shorter { OnOk result (length cursor.new < length cursor.old) }
+    ensures refused { IsErrOf result ReadError.Malformed → BeginsNoCommand timed cursor.old }
+{
+    let start = start_of(cursor)?;
+    if start.head.asks && !timed {
+        return Err(ReadError::Malformed);
+    }
+    body(alloc, start.kind, start.head, cursor)
+}
 
 /// The most bytes of a datagram, the protocol's greatest MTU.
 pub const MOST_BYTES: usize = 4096;

@@ -283,6 +283,7 @@ fn written_again(rt: HostRuntime) -> Result<(), Fail> {
     let datagram = read(rt.alloc(), &bytes)?;
     assert_eq!(rt; datagram.session, 0);
     assert!(rt; datagram.sent.is_some());
+    assert_eq!(rt; datagram.written_length(), bytes.len());
     let mut out = vec![in rt.alloc(); 0xEE; 300]?;
     assert!(rt; bytes.len() <= out.len());
     let end = write(&datagram, &mut out);

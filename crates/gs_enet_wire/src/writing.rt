@@ -17,11 +17,9 @@ ghost use Rattle.gs_enet_wire.specs.Grammar.{
 };
 ghost use Rattle.gs_enet_wire.specs.Writing.{Puts, PutsFields};
 
-use crate::head::ASKS;
-use crate::pen::{put_bytes, put_u8, put_u16};
-use crate::read_header::SENT_TIME;
-use crate::reading::MOST_BYTES;
-use crate::write_fields::put_fields;
+use crate::command::ASKS;
+use crate::reading::{MOST_BYTES, SENT_TIME};
+use crate::write_fields::{put_bytes, put_fields, put_u8, put_u16};
 use crate::{Command, Datagram};
 
 fn first_byte(command: &Command) -> u8

@@ -1,7 +1,7 @@
 use Rattle.std.proofs.Common.{◌≡◌, ◌+◌, ◌-◌, length, take, drop, sym, append_assoc, arith}
 use Rattle.std.proofs.lemmas.List.{drop-drop}
 use Rattle.gs_enet_wire.proofs.Writers.{puts_text}
-use Rattle.gs_enet_wire.proofs.pen.put_bytes.Goals as goal
+use Rattle.gs_enet_wire.proofs.write_fields.put_bytes.Goals as goal
 
 pub returns : goal.returns
 returns c =

@@ -2,7 +2,7 @@ use Rattle.std.proofs.Common.{◌≡◌, ◌/◌, ◌%◌, arith}
 use Rattle.gs_bytes.specs.Field.{be_value}
 use Rattle.gs_enet_wire.proofs.Faults.{fault_compressed, fault_time}
 use Rattle.gs_enet_wire.proofs.HeaderReaders.{word_taken, compressed_bit, takes_header}
-use Rattle.gs_enet_wire.proofs.read_header.read_header.Goals as goal
+use Rattle.gs_enet_wire.proofs.reading.read_header.Goals as goal
 
 pub returns-then-word-ne0-clause-fault : goal.returns-then-word-ne0-clause-fault
 returns-then-word-ne0-clause-fault c = λ short.

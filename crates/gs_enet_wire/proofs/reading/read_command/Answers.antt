@@ -2,7 +2,7 @@ use Rattle.std.proofs.Common.{◌≡◌, true, inl, inr}
 use Rattle.std.proofs.lemmas.Result.{IfOk-weaker}
 use Rattle.gs_enet_wire.specs.Reading.{TakesBody, TakesCommand}
 use Rattle.gs_enet_wire.proofs.Readers.{takes_command}
-use Rattle.gs_enet_wire.proofs.read_command.read_command.Goals as goal
+use Rattle.gs_enet_wire.proofs.reading.read_command.Goals as goal
 
 pub returns-clause-taken : goal.returns-clause-taken
 returns-clause-taken c =
