@@ -7,7 +7,8 @@ use Rattle.gs_rtsp_text.specs.declared.message.Method.{Method}
 use Rattle.gs_rtsp_text.specs.declared.message.Method.TheVariants.{Options, Describe, Setup, Announce, Play}
 use Rattle.gs_rtsp_text.specs.declared.stop.Stop.{Stop}
 use Rattle.gs_rtsp_text.specs.declared.stop.Stop.TheVariants.{Bad}
-use Rattle.gs_rtsp_text.specs.Bytes.{crlf, is_digit, is_value_byte, is_target_byte}
+use Rattle.gs_rtsp_text.specs.Bytes.{crlf, is_value_byte, is_target_byte}
+use Rattle.gs_bytes.specs.Numbers.{is_digit}
 use Rattle.gs_rtsp_text.specs.Lines.{method_name, three_digits, IsRequestLine, IsStatusLine}
 use Rattle.gs_rtsp_text.specs.Reading.{◌>>=◌, literal_at, token_at, word, this_method, method_at, request_line_at, digit_at, status_line_at}
 use Rattle.gs_rtsp_text.proofs.Parts.{Opens, Meets, IsCode, Then, meets_at, meets_none, meets_same, then_meets, then_code, then_some, read_same}

@@ -1,16 +1,20 @@
 -- Header lines are read exactly.
 use Rattle.std.proofs.Common.{◌≡◌, ℕ, zero, suc, Bool, true, false, cond, List, [], ◌∷◌, ◌++◌, length, Result, Ok, refl, sym, ap, subst, ◌∙◌, append_assoc, arith}
 use Rattle.std.specs.List.{list_all}
-use Rattle.std.proofs.lemmas.List.Folds.{list_all-append}
+use Rattle.gs_bytes.proofs.Decimals.{digits_all}
+use Rattle.gs_bytes.proofs.Lists.{all-append, all_front, all_back}
 use Rattle.std.proofs.lemmas.Bool.{false≢true}
 use Rattle.std.proofs.lemmas.Bool.Decides.{nat_tests}
 use Rattle.gs_rtsp_text.specs.declared.header.Header.{Header}
 use Rattle.gs_rtsp_text.specs.declared.stop.Stop.{Stop}
-use Rattle.gs_rtsp_text.specs.Bytes.{trimmed, is_space, crlf, spaces, is_digit, is_name_byte, is_value_byte, is_sequence_number, IsRun}
-use Rattle.gs_rtsp_text.specs.Lines.{is_cseq, HasNoOuterSpace, IsHeaderLine}
+use Rattle.gs_bytes.specs.Words.{trimmed, is_space, spaces}
+use Rattle.gs_rtsp_text.specs.Bytes.{crlf, is_name_byte, is_value_byte, is_sequence_number, IsRun}
+use Rattle.gs_bytes.specs.Numbers.{is_digit}
+use Rattle.gs_rtsp_text.specs.Lines.{is_cseq, IsHeaderLine}
+use Rattle.gs_bytes.specs.Words.{HasNoOuterSpace}
 use Rattle.gs_rtsp_text.specs.Reading.{◌>>=◌, token_at, sequence_at, value_at, header_at}
 use Rattle.gs_rtsp_text.proofs.Parts.{Opens, Meets, IsCode, Then, meets_as, meets_same, then_meets, then_code}
-use Rattle.gs_rtsp_text.proofs.Trims.{trims, trimmed-spaces}
+use Rattle.gs_bytes.proofs.SpaceLemmas.{digits_outer, trims, trimmed-spaces}
 use Rattle.gs_rtsp_text.proofs.Tokens.{Exactly, Token, token_meets, token_code, literal_meets, literal_as, exactly_some, exactly_code}
 use Rattle.gs_rtsp_text.proofs.Numbers.{Spaced, sequence_meets, number_parts}
 
@@ -26,15 +30,6 @@ pub record IsValue (name w v : List ℕ) : Type 0 where
 -- the same for any name: printable bytes to the end of the line
 abbrev pub Plain : List ℕ → List ℕ → Type 0
 Plain = Then (Token is_value_byte 13 true) (λ raw. Exactly (10 ∷ []) (trimmed raw))
-
-pub all-append : (p : ℕ → Bool) (a b : List ℕ) → list_all p a ≡ true → list_all p b ≡ true → list_all p (a ++ b) ≡ true
-all-append p a b h k = list_all-append p a b ∙ grind (arith, h, k)
-
-pub all_front : (p : ℕ → Bool) (a b : List ℕ) → list_all p (a ++ b) ≡ true → list_all p a ≡ true
-all_front p a b h = let e = sym (list_all-append p a b) ∙ h in grind (arith, e)
-
-pub all_back : (p : ℕ → Bool) (a b : List ℕ) → list_all p (a ++ b) ≡ true → list_all p b ≡ true
-all_back p a b h = let e = sym (list_all-append p a b) ∙ h in grind (arith, e)
 
 pub all_spaces : (p : ℕ → Bool) → p 32 ≡ true → (k : ℕ) → list_all p (spaces k) ≡ true
 all_spaces p h zero = refl
@@ -68,22 +63,9 @@ value_from_plain name other w v h =
       parts = h.parts ∙ ap (λ (u : List ℕ). u ++ h.back) h.first.word ∙ ap (λ (u : List ℕ). h.value ++ 13 ∷ [] ++ u) h.second.word ∙ append_assoc h.value (13 ∷ []) (10 ∷ []) ∙ ap (λ (u : List ℕ). u ++ crlf) raw;
     }
 
-pub digits_all : (p : ℕ → Bool) → ((b : ℕ) → is_digit b ≡ true → p b ≡ true) → (ds : List ℕ) → list_all is_digit ds ≡ true → list_all p ds ≡ true
-digits_all p h [] e = refl
-digits_all p h (d ∷ ds) e =
-    let t = digits_all p h ds (grind (arith, e)) in
-    let first = h d (grind (arith, e)) in
-    grind (arith, t, first)
-
 sequence_digits : (ds : List ℕ) → is_sequence_number ds ≡ true → list_all is_digit ds ≡ true
 sequence_digits [] e = refl
 sequence_digits (d ∷ ds) e = let p = number_parts d ds e in grind (arith, p.0, p.1)
-
-pub digits_outer : (ds : List ℕ) → list_all is_digit ds ≡ true → HasNoOuterSpace ds
-digits_outer ds e = record {
-  first = λ rest h. let t = sym (ap (list_all is_digit) h) ∙ e in false≢true t;
-  last = λ front h. let t = all_back is_digit front (32 ∷ []) (sym (ap (list_all is_digit) h) ∙ e) in false≢true t;
-}
 
 spaces_is : (x : List ℕ) → list_all is_space x ≡ true → x ≡ spaces (length x)
 spaces_is [] e = refl

@@ -1,7 +1,6 @@
 pub mod Parts
 pub mod Tokens
 pub mod Numbers
-pub mod Trims
 pub mod HeaderLines
 pub mod FirstLines
 pub mod Rest
@@ -10,4 +9,3 @@ pub mod Decided
 pub mod Scans
 pub mod Answered
 pub mod Written
-pub mod Decimals

@@ -5,10 +5,12 @@ use Rattle.std.proofs.lemmas.Bool.{false≢true}
 use Rattle.std.proofs.lemmas.Bool.Decides.{nat_tests}
 use Rattle.gs_rtsp_text.specs.declared.stop.Stop.{Stop}
 use Rattle.gs_rtsp_text.specs.declared.stop.Stop.TheVariants.{More, Bad}
-use Rattle.gs_rtsp_text.specs.Bytes.{without_first_spaces, is_space, is_digit, spaces, number_from, number_of, is_sequence_number}
+use Rattle.gs_bytes.specs.Words.{without_first_spaces, is_space, spaces}
+use Rattle.gs_bytes.specs.Numbers.{is_digit, number_from, number_of}
+use Rattle.gs_rtsp_text.specs.Bytes.{is_sequence_number}
 use Rattle.gs_rtsp_text.specs.Reading.{◌>>=◌, with_first, literal_at, token_at, digits_at, number_at, sequence_at}
 use Rattle.gs_rtsp_text.proofs.Parts.{Opens, Meets, Then, meets_more, meets_none, meets_at, then_meets, read_same}
-use Rattle.gs_rtsp_text.proofs.Trims.{without_first-cons}
+use Rattle.gs_bytes.proofs.SpaceLemmas.{without_first-cons}
 use Rattle.gs_rtsp_text.proofs.Tokens.{Exactly, Token, token_meets, token_code, literal_meets, literal_as, exactly_some}
 
 -- spaces to the end of a line

@@ -6,7 +6,9 @@ use Rattle.std.specs.Str.{bytes_eq}
 use Rattle.gs_rtsp_text.specs.declared.header.Header.{Header}
 use Rattle.gs_rtsp_text.specs.declared.message.Method.{Method}
 use Rattle.gs_rtsp_text.specs.declared.message.Method.TheVariants.{Options, Describe, Setup, Announce, Play}
-use Rattle.gs_rtsp_text.specs.Bytes.{crlf, spaces, is_name_byte, is_value_byte, is_target_byte, IsRun, decimal_up_to, is_sequence_number}
+use Rattle.gs_rtsp_text.specs.Bytes.{crlf, is_name_byte, is_value_byte, is_target_byte, IsRun, is_sequence_number}
+use Rattle.gs_bytes.specs.Words.{HasNoOuterSpace, spaces}
+use Rattle.gs_bytes.specs.Numbers.{decimal_up_to}
 
 -- ---- header lines
 
@@ -19,11 +21,6 @@ is_cseq name = is_same_name name (codes "CSeq")
 
 abbrev pub is_content_length : List ℕ → Bool
 is_content_length name = is_same_name name (codes "Content-length")
-
--- no space at either end
-pub record HasNoOuterSpace (value : List ℕ) : Type 0 where
-  pub first : (rest : List ℕ) → value ≡ 32 ∷ rest → ⊥
-  pub last : (front : List ℕ) → value ≡ front ++ 32 ∷ [] → ⊥
 
 -- what a header of a message is; the value of a CSeq is a number below 2 ^ 31
 pub record IsHeader (h : Header) : Type 0 where

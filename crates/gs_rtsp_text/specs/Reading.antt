@@ -1,4 +1,5 @@
--- Reading, part by part: each answers what it read and the bytes behind it, or where it stops.
+-- Cited by private contracts alone: reading, part by part. Each part answers what it read and the bytes behind it,
+-- or where it stops.
 use Rattle.std.specs.Prelude.{◌≡◌, ℕ, zero, suc, ◌≤◌, ◌+◌, ◌-◌, ◌*◌, ◌^◌, Bool, true, false, ◌&&◌, ◌||◌, ◌==◌, nat_le, List, [], ◌∷◌, ◌++◌, length, take, drop, codes, Option, Some, None, Result, Ok, Err, if◌then◌else◌}
 use Rattle.gs_rtsp_text.specs.declared.header.Header.{Header}
 use Rattle.gs_rtsp_text.specs.declared.message.Method.{Method}
@@ -9,7 +10,9 @@ use Rattle.gs_rtsp_text.specs.declared.stop.ReadError.{ReadError}
 use Rattle.gs_rtsp_text.specs.declared.stop.ReadError.TheVariants as errors
 use Rattle.gs_rtsp_text.specs.declared.message.TextError.{TextError}
 use Rattle.gs_rtsp_text.specs.declared.message.TextError.TheVariants as text_errors
-use Rattle.gs_rtsp_text.specs.Bytes.{crlf, is_digit, is_name_byte, is_value_byte, is_target_byte, is_space, without_first_spaces, trimmed}
+use Rattle.gs_rtsp_text.specs.Bytes.{crlf, is_name_byte, is_value_byte, is_target_byte}
+use Rattle.gs_bytes.specs.Numbers.{is_digit}
+use Rattle.gs_bytes.specs.Words.{is_space, without_first_spaces, trimmed}
 use Rattle.gs_rtsp_text.specs.Lines.{method_name, is_cseq, cseq_count, body_length}
 use Rattle.gs_rtsp_text.specs.Message.{Answer, Whole, BadText, More as Unfinished, head_limit}
 

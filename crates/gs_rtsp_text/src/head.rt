@@ -8,9 +8,9 @@ ghost use Rattle.gs_rtsp_text.specs.Reading.{Stops, Gives, length_if_right, empt
 use crate::header::Header;
 use crate::lines::{header, names_content_length, names_cseq, request_line, status_line};
 use crate::message::Method;
-use crate::number::parse_decimal;
 use crate::scan::literal;
 use crate::stop::{ReadError, Stop};
+use gs_bytes::parse_number;
 use std::alloc::Global;
 
 /// The most bytes of a body.
@@ -25,8 +25,19 @@ pub(crate) enum Kind {
     Response,
 }
 
-/// What the first line of a message says, its headers and the length of its body.
-pub(crate) type Head<S> = (S, (Vec<Header>, u32));
+/// The headers of a message, and the length of the body that they give.
+#[derive(Drop)]
+pub(crate) struct HeaderLines {
+    pub headers: Vec<Header>,
+    pub size: u32,
+}
+
+/// A head: what its first line says, and its header lines.
+#[derive(Drop)]
+pub(crate) struct Head<S> {
+    pub start: S,
+    pub lines: HeaderLines,
+}
 
 fn count_cseq(headers: &[Header]) -> usize
     ensures { result ≡ cseq_count headers.now }
@@ -48,7 +59,7 @@ fn length_of_body(headers: &[Header]) -> Option<u32>
             length = if given {
                 None
             } else {
-                parse_decimal(header.value.as_bytes(), BODY_LIMIT)
+                parse_number(header.value.as_bytes(), BODY_LIMIT)
             };
             given = true;
         }
@@ -77,15 +88,15 @@ fn empty_line(
     headers: Vec<Header>,
     length: Option<u32>,
     bytes: &[u8],
-) -> Result<((Vec<Header>, u32), &[u8]), Stop>
-    ensures { Stops (λ x. ((x.0.0.items, x.0.1), x.1.now)) result
+) -> Result<(HeaderLines, &[u8]), Stop>
+    ensures { Stops (λ x. ((x.0.headers.items, x.0.size), x.1.now)) result
         (empty_line_at headers.items length bytes.now) }
 {
     match length {
         None => Err(Stop::Bad(bytes.len())),
-        Some(length) => {
+        Some(size) => {
             let rest = literal(b"\r\n", bytes)?;
-            Ok(((headers, length), rest))
+            Ok((HeaderLines { headers, size }, rest))
         }
     }
 }
@@ -100,12 +111,8 @@ fn is_at_empty_line(bytes: &[u8]) -> bool
 }
 
 /// Reads the header lines and the empty line.
-fn header_lines(
-    alloc: Global,
-    kind: Kind,
-    bytes: &[u8],
-) -> Result<((Vec<Header>, u32), &[u8]), ReadError>
-    ensures { Gives (λ x. ((x.0.0.items, x.0.1), x.1.now)) result
+fn header_lines(alloc: Global, kind: Kind, bytes: &[u8]) -> Result<(HeaderLines, &[u8]), ReadError>
+    ensures { Gives (λ x. ((x.0.headers.items, x.0.size), x.1.now)) result
         (rest_of_head (count_test kind) [] bytes.now) }
 {
     let mut headers = Vec::new(alloc);
@@ -125,21 +132,21 @@ pub(crate) fn request_head(
     alloc: Global,
     bytes: &[u8],
 ) -> Result<(Head<(Method, &[u8])>, &[u8]), ReadError>
-    ensures { Gives (λ x. (((x.0.0.0, x.0.0.1.now), (x.0.1.0.items, x.0.1.1)), x.1.now)) result
+    ensures { Gives (λ x. (((x.0.start.0, x.0.start.1.now), (x.0.lines.headers.items, x.0.lines.size)), x.1.now)) result
         (head_by request_line_at is_one bytes.now) }
 {
     let (start, rest) = request_line(bytes)?;
-    let (headers, rest) = header_lines(alloc, Kind::Request, rest)?;
-    Ok(((start, headers), rest))
+    let (lines, rest) = header_lines(alloc, Kind::Request, rest)?;
+    Ok((Head { start, lines }, rest))
 }
 
 /// Reads the head of a response.
 #[tactic(auto, unfolding(crate::specs::Reading::head_by))]
 pub(crate) fn response_head(alloc: Global, bytes: &[u8]) -> Result<(Head<u16>, &[u8]), ReadError>
-    ensures { Gives (λ x. ((x.0.0, (x.0.1.0.items, x.0.1.1)), x.1.now)) result
+    ensures { Gives (λ x. ((x.0.start, (x.0.lines.headers.items, x.0.lines.size)), x.1.now)) result
         (head_by status_line_at is_at_most_one bytes.now) }
 {
     let (start, rest) = status_line(bytes)?;
-    let (headers, rest) = header_lines(alloc, Kind::Response, rest)?;
-    Ok(((start, headers), rest))
+    let (lines, rest) = header_lines(alloc, Kind::Response, rest)?;
+    Ok((Head { start, lines }, rest))
 }

@@ -1,11 +1,17 @@
 //! Headers, and lists of them.
 
+ghost use Rattle.std.specs.Cmp.Lexicographic.{pointwise, lists_per, lists_equiv};
+ghost use Rattle.gs_rtsp_text.specs.contracts.header.HeaderPartialEq.TheImpl as partial;
+ghost use Rattle.gs_rtsp_text.specs.contracts.header.HeaderPartialEq.TheImpl.Laws as partial_laws;
+ghost use Rattle.gs_rtsp_text.specs.contracts.header.HeaderEq.TheImpl.Laws as whole_laws;
+
 use crate::lines::are_same_name;
 use gs_bytes::Text;
 use std::marker::Model;
 
-/// A header: a name, which is compared without regard to the case of ASCII letters, and a value.
-#[derive(Debug, Drop)]
+/// A header (RFC 2326, section 4.2): a name, which is compared without regard to the case of ASCII
+/// letters, and a value, without spaces at its ends.
+#[derive(Debug, PartialEq, Eq, Drop)]
 pub struct Header {
     pub name: Text,
     pub value: Text,
@@ -63,4 +69,18 @@ impl Headers {
     {
         self.items.as_slice()
     }
+}
+
+impl PartialEq for Headers {
+    ghost eq = { pointwise partial.ghosts.eq };
+
+    ghost laws = { lists_per partial_laws.laws-law };
+
+    fn eq(&self, other: &Headers) -> bool {
+        self.as_slice() == other.as_slice()
+    }
+}
+
+impl Eq for Headers {
+    ghost laws = { lists_equiv whole_laws.laws-law };
 }

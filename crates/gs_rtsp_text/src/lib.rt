@@ -15,7 +15,6 @@ mod header;
 mod laws;
 mod lines;
 mod message;
-mod number;
 mod read;
 mod scan;
 mod stop;
@@ -27,9 +26,7 @@ pub use laws::{
     written_response_is_read,
 };
 pub use message::{Method, Read, Request, Response, TextError};
-pub use number::parse_decimal;
 pub use read::{read_request, read_response};
-pub use scan::trim_end;
 pub use write::{write_request, write_response};
 
 #[cfg(test)]

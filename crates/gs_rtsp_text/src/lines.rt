@@ -6,9 +6,9 @@ ghost use Rattle.gs_rtsp_text.specs.Reading.{Stops, Gives, word, sequence_at, va
 
 use crate::header::Header;
 use crate::message::Method;
-use crate::scan::{ByteClass, literal, number, token, trim, without_spaces_before};
+use crate::scan::{ByteClass, literal, number, token};
 use crate::stop::{ReadError, Stop};
-use gs_bytes::Text;
+use gs_bytes::{Text, trim, trim_start};
 use std::alloc::Global;
 
 /// Whether two names differ in the case of ASCII letters alone.
@@ -37,7 +37,7 @@ pub(crate) fn names_content_length(name: &[u8]) -> bool
 fn sequence(bytes: &[u8]) -> Result<(&[u8], &[u8]), Stop>
     ensures { Stops (λ x. (x.0.now, x.1.now)) result (sequence_at bytes.now) }
 {
-    let (digits, rest) = number(without_spaces_before(bytes))?;
+    let (digits, rest) = number(trim_start(bytes))?;
     let (_, rest) = token(ByteClass::Space, b'\r', true, rest)?;
     let rest = literal(b"\n", rest)?;
     Ok((digits, rest))

@@ -4,18 +4,24 @@ use crate::header::Headers;
 use gs_bytes::{OutOfMemory, Text};
 use thiserror::Error;
 
-/// The method of a request.
+/// The method of a request (RFC 2326, section 10).
 #[derive(Clone, Copy, Debug, PartialEq, Eq)]
 pub enum Method {
+    /// What can be asked for (section 10.1).
     Options,
+    /// What a stream is (section 10.2).
     Describe,
+    /// How a stream is carried (section 10.4).
     Setup,
+    /// With which settings it is carried (section 10.3).
     Announce,
+    /// Starts it (section 10.5).
     Play,
 }
 
-/// A request.
-#[derive(Debug, Drop)]
+/// A request (RFC 2326, section 6). Its body is as long as its Content-length header says (section
+/// 12.14), and it has one CSeq header (section 12.17).
+#[derive(Debug, PartialEq, Eq, Drop)]
 pub struct Request {
     pub method: Method,
     pub target: Text,
@@ -23,8 +29,9 @@ pub struct Request {
     pub body: Text,
 }
 
-/// A response. The words after its code are not kept.
-#[derive(Debug, Drop)]
+/// A response (RFC 2326, section 7): its status code, three digits (section 7.1.1), headers and
+/// body. The words after its code are not kept.
+#[derive(Debug, PartialEq, Eq, Drop)]
 pub struct Response {
     pub code: u16,
     pub headers: Headers,
@@ -32,16 +39,16 @@ pub struct Response {
 }
 
 /// What the bytes that have come so far hold.
-#[derive(Debug, Drop)]
+#[derive(Debug, PartialEq, Eq, Drop)]
 pub enum Read<T> {
-    /// A whole message, and how many bytes it takes.
+    /// A whole message, and how many bytes it takes from the front.
     Whole { value: T, used: usize },
     /// The beginning of one.
     More,
 }
 
 /// Why no message is read.
-#[derive(Debug, Drop, Error)]
+#[derive(Clone, Copy, Debug, PartialEq, Eq, Error)]
 pub enum TextError {
     /// The place of the first byte that can't stand there.
     #[error("no RTSP message goes on so at byte {0}")]

@@ -6,7 +6,7 @@ ghost use Rattle.gs_rtsp_text.specs.declared.message.TextError.TheVariants.{BadT
 ghost use Rattle.gs_rtsp_text.specs.Message.{Answer, Answers, IfWhole, head_limit, request_message, response_message, is_one, is_at_most_one, IsRequest, IsBadRequestPlace, IsOpenRequest, IsRequestAnswer, IsResponse, IsBadResponsePlace, IsOpenResponse, IsResponseAnswer};
 ghost use Rattle.gs_rtsp_text.specs.Reading.{Gives, GivesPlace, IsErrorWithin, ReadsWithin, answer_by, body_answer, head_by, request_line_at, status_line_at};
 
-use crate::head::{Head, request_head, response_head};
+use crate::head::{Head, HeaderLines, request_head, response_head};
 use crate::header::Headers;
 use crate::message::{Method, Read, Request, Response, TextError};
 use crate::stop::{ReadError, Stop};
@@ -54,7 +54,7 @@ fn body_at(bytes: &[u8], place: usize, size: u32) -> Option<&[u8]>
 
 /// The head of a request, read of some bytes.
 fn request_head_of(alloc: Global, bytes: &[u8]) -> Result<(Head<(Method, &[u8])>, &[u8]), ReadError>
-    ensures head { Gives (λ x. (((x.0.0.0, x.0.0.1.now), (x.0.1.0.items, x.0.1.1)), x.1.now)) result
+    ensures head { Gives (λ x. (((x.0.start.0, x.0.start.1.now), (x.0.lines.headers.items, x.0.lines.size)), x.1.now)) result
         (head_by request_line_at is_one bytes.now) }
     ensures within { ReadsWithin (λ x. x.1.now) bytes.now result }
 {
@@ -70,9 +70,11 @@ fn whole_request(
 ) -> Result<Read<Request>, TextError>
     requires { place ≤ length bytes.now }
     ensures { Answers request_message result
-        (body_answer bytes.now place (head.entry.0.0, head.entry.0.1.now) head.entry.1.0.items head.entry.1.1) }
+        (body_answer bytes.now place (head.entry.start.0, head.entry.start.1.now) head.entry.lines.headers.items head.entry.lines.size) }
 {
-    let ((method, target), (headers, size)) = head;
+    let Head { start, lines } = head;
+    let (method, target) = start;
+    let HeaderLines { headers, size } = lines;
     let Some(body) = body_at(bytes, place, size) else {
         return Ok(Read::More);
     };
@@ -124,7 +126,7 @@ pub fn read_request(alloc: Global, bytes: &[u8]) -> Result<Read<Request>, TextEr
 
 /// The head of a response, read of some bytes.
 fn response_head_of(alloc: Global, bytes: &[u8]) -> Result<(Head<u16>, &[u8]), ReadError>
-    ensures head { Gives (λ x. ((x.0.0, (x.0.1.0.items, x.0.1.1)), x.1.now)) result
+    ensures head { Gives (λ x. ((x.0.start, (x.0.lines.headers.items, x.0.lines.size)), x.1.now)) result
         (head_by status_line_at is_at_most_one bytes.now) }
     ensures within { ReadsWithin (λ x. x.1.now) bytes.now result }
 {
@@ -140,9 +142,10 @@ fn whole_response(
 ) -> Result<Read<Response>, TextError>
     requires { place ≤ length bytes.now }
     ensures { Answers response_message result
-        (body_answer bytes.now place head.0 head.1.0.items head.1.1) }
+        (body_answer bytes.now place head.start head.lines.headers.items head.lines.size) }
 {
-    let (code, (headers, size)) = head;
+    let Head { start: code, lines } = head;
+    let HeaderLines { headers, size } = lines;
     let Some(body) = body_at(bytes, place, size) else {
         return Ok(Read::More);
     };

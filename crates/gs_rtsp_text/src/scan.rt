@@ -1,9 +1,9 @@
-//! The smallest parts of a text: literals, tokens, numbers and spaces.
+//! The smallest parts of a text: literals, tokens and numbers.
 //!
 //! Each reader answers what it read and the bytes behind it, or where it stops.
 
 ghost use Rattle.std.specs.Prelude.{◌≡◌};
-ghost use Rattle.gs_rtsp_text.specs.Bytes.{class_test, without_first_spaces, without_last_spaces, trimmed};
+ghost use Rattle.gs_rtsp_text.specs.Bytes.{class_test};
 ghost use Rattle.gs_rtsp_text.specs.Reading.{Stops, literal_at, token_at, number_at};
 
 use crate::stop::Stop;
@@ -94,36 +94,4 @@ pub(crate) fn number(bytes: &[u8]) -> Result<(&[u8], &[u8]), Stop>
         value = next;
     }
     Err(Stop::More)
-}
-
-/// The bytes behind the spaces at the front.
-pub(crate) fn without_spaces_before(bytes: &[u8]) -> &[u8]
-    ensures { result.now ≡ without_first_spaces bytes.now }
-{
-    let mut rest = bytes;
-    while let [b' ', after @ ..] = rest {
-        rest = after;
-    }
-    rest
-}
-
-/// The bytes without the spaces at their end.
-pub fn trim_end(bytes: &[u8]) -> &[u8]
-    ensures { result.now ≡ without_last_spaces bytes.now }
-{
-    let mut rest = bytes;
-    while let [before @ .., last] = rest {
-        if *last != b' ' {
-            return rest;
-        }
-        rest = before;
-    }
-    rest
-}
-
-/// The bytes without the spaces at their ends.
-pub(crate) fn trim(bytes: &[u8]) -> &[u8]
-    ensures { result.now ≡ trimmed bytes.now }
-{
-    trim_end(without_spaces_before(bytes))
 }

@@ -310,13 +310,3 @@ fn written_messages(rt: HostRuntime) -> Result<(), Fail> {
     assert_eq!(rt; text.as_bytes(), want.as_slice());
     Ok(())
 }
-
-#[test]
-fn decimal_numbers(rt: HostRuntime) {
-    assert_eq!(rt; parse_decimal(b"8192", 8_192), Some(8_192));
-    assert_eq!(rt; parse_decimal(b"8193", 8_192), None);
-    assert_eq!(rt; parse_decimal(b"0", 8_192), Some(0));
-    assert_eq!(rt; parse_decimal(b"00", 8_192), None);
-    assert_eq!(rt; parse_decimal(b"", 8_192), None);
-    assert_eq!(rt; trim_end(b" a  "), b" a".as_slice());
-}

@@ -2,7 +2,7 @@
 
 ghost use Rattle.std.specs.Prelude.{◌≡◌, ◌<◌, ◌++◌, codes, IfOk, OnOk};
 ghost use Rattle.std.specs.List.{flat_map};
-ghost use Rattle.gs_rtsp_text.specs.Lines.{method_name, three_digits};
+ghost use Rattle.gs_rtsp_text.specs.Lines.{three_digits};
 ghost use Rattle.gs_rtsp_text.specs.Writing.{header_text, request_line_text, status_line_text, reason_of, request_text, response_text, IsSendableRequest, IsSendableResponse};
 
 use crate::header::Header;
@@ -28,29 +28,15 @@ fn push_headers(out: &mut Vec<u8>, headers: &[Header]) -> Result<(), AllocError>
     Ok(())
 }
 
-fn name_of(method: Method) -> &'static [u8]
-    ensures { result.now ≡ method_name method }
-{
-    match method {
-        Method::Options => b"OPTIONS",
-        Method::Describe => b"DESCRIBE",
-        Method::Setup => b"SETUP",
-        Method::Announce => b"ANNOUNCE",
-        Method::Play => b"PLAY",
-    }
-}
-
 fn push_request_line(out: &mut Vec<u8>, method: Method, target: &[u8]) -> Result<(), AllocError>
     ensures { OnOk result (out.new.items ≡ out.old.items ++ request_line_text method target.now) }
 {
-    out.extend_from_slice(name_of(method))?;
-    out.extend_from_slice(b" ")?;
+    out.extend_from_slice(method.word())?;
     out.extend_from_slice(target)?;
-    out.extend_from_slice(b" RTSP/1.0")?;
-    out.extend_from_slice(b"\r\n")
+    out.extend_from_slice(b" RTSP/1.0\r\n")
 }
 
-/// The words behind a code.
+/// The words behind a code (RFC 2326, section 7.1.1).
 fn reason(code: u16) -> &'static [u8]
     ensures { result.now ≡ reason_of code }
 {
@@ -85,7 +71,7 @@ fn push_status_line(out: &mut Vec<u8>, code: u16) -> Result<(), AllocError>
     out.extend_from_slice(b"\r\n")
 }
 
-/// The text of a request.
+/// The text of a request (RFC 2326, section 6).
 pub fn write_request(alloc: Global, request: &Request) -> Result<Text, OutOfMemory>
     requires { IsSendableRequest request.now }
     ensures { IfOk result (λ text. text ≡ request_text request.now) }
@@ -98,7 +84,7 @@ pub fn write_request(alloc: Global, request: &Request) -> Result<Text, OutOfMemo
     Ok(Text::from_vec(out))
 }
 
-/// The text of a response.
+/// The text of a response (RFC 2326, section 7).
 pub fn write_response(alloc: Global, response: &Response) -> Result<Text, OutOfMemory>
     requires { IsSendableResponse response.now }
     ensures { IfOk result (λ text. text ≡ response_text response.now) }

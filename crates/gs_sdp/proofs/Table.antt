@@ -4,10 +4,13 @@ use Rattle.std.specs.Prelude.{codes, decimal, option_and_then}
 use Rattle.std.specs.List.{list_all}
 use Rattle.std.proofs.lemmas.List.{append-nil, reverse-append, reverse-reverse}
 use Rattle.std.proofs.lemmas.Bool.Decides.{nat_tests}
-use Rattle.gs_rtsp_text.specs.Bytes.{is_digit, without_last_spaces}
-use Rattle.gs_rtsp_text.proofs.HeaderLines.{all-append, digits_all, digits_outer}
-use Rattle.gs_rtsp_text.proofs.Trims.{without_last-none}
-use Rattle.gs_rtsp_text.proofs.Decimals.{decimal_is_decimal, decimal_digits, decimal_up_to-decimal}
+use Rattle.gs_bytes.specs.Numbers.{is_digit}
+use Rattle.gs_bytes.specs.Words.{without_last_spaces}
+use Rattle.gs_bytes.proofs.Lists.{all-append}
+use Rattle.gs_bytes.proofs.Decimals.{digits_all}
+use Rattle.gs_bytes.proofs.SpaceLemmas.{digits_outer}
+use Rattle.gs_bytes.proofs.SpaceLemmas.{without_last-none}
+use Rattle.gs_bytes.proofs.Decimals.{decimal_is_decimal, decimal_digits, decimal_up_to-decimal}
 use Rattle.gs_sdp.specs.declared.attributes.SettingName.{SettingName}
 use Rattle.gs_sdp.specs.declared.attributes.SettingName.TheVariants.{PacketSize, MaxFps, Minimum, Duration}
 use Rattle.gs_sdp.specs.Lines.{with_byte, lines_of, without_cr, behind, value_in, later, last_among, last_value, line_text}

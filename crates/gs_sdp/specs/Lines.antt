@@ -1,7 +1,7 @@
 -- Attribute lines (RFC 4566, section 5.13): `a=NAME:VALUE`.
 use Rattle.std.specs.Prelude.{ℕ, ◌==◌, nat_eq, List, [], ◌∷◌, ◌++◌, length, drop, reverse, codes, Option, Some, None, option_and_then, if◌then◌else◌}
 use Rattle.std.specs.List.{starts_with}
-use Rattle.gs_rtsp_text.specs.Bytes.{without_last_spaces}
+use Rattle.gs_bytes.specs.Words.{without_last_spaces}
 
 -- the lines of a body, each without the LF that ends it; what stands behind the last LF is no line
 abbrev pub with_byte : ℕ → List (List ℕ) → List (List ℕ)

@@ -1,6 +1,6 @@
 -- The attributes that name a stream's settings.
 use Rattle.std.specs.Prelude.{◌≡◌, ℕ, ◌++◌, nat_le, List, codes, decimal, Option, Some, None, IsSome, option_and_then, if◌then◌else◌}
-use Rattle.gs_rtsp_text.specs.Bytes.{decimal_up_to}
+use Rattle.gs_bytes.specs.Numbers.{decimal_up_to}
 use Rattle.gs_rtp.specs.declared.settings.Settings.{Settings}
 use Rattle.gs_sdp.specs.declared.attributes.SettingName.{SettingName}
 use Rattle.gs_sdp.specs.declared.attributes.SettingName.TheVariants.{PacketSize, MaxFps, Minimum, Duration}

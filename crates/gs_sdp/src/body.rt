@@ -1,6 +1,6 @@
 //! Writing attribute lines.
 
-ghost use Rattle.std.specs.Prelude.{◌≡◌, ◌++◌, decimal, IfOk, OnOk};
+ghost use Rattle.std.specs.Prelude.{◌≡◌, ◌++◌, decimal, IfOk, OnErr, OnOk};
 ghost use Rattle.gs_sdp.specs.Lines.{line_text};
 ghost use Rattle.gs_sdp.specs.Table.{body_text, name_of};
 
@@ -10,16 +10,24 @@ use gs_rtp::Settings;
 use itoa::Buffer;
 use std::alloc::{AllocError, Global};
 
-/// Writes an attribute line with a number behind other text, ended by CR LF.
+/// How many bytes of a line are neither its name nor its value.
+const AROUND: usize = 5;
+
+/// Writes an attribute line with a number behind other text, ended by CR LF. Where memory is
+/// wanting, the text stays as it was.
 pub fn push_line(out: &mut Vec<u8>, name: &[u8], value: u32) -> Result<(), AllocError>
-    ensures { OnOk result (out.new.items ≡ out.old.items ++ line_text name.now (decimal value)) }
+    ensures ok { OnOk result (out.new.items ≡ out.old.items ++ line_text name.now (decimal value)) }
+    ensures err { OnErr result (out.new.items ≡ out.old.items) }
 {
     let mut buffer = Buffer::new();
-    out.extend_from_slice(b"a=")?;
-    out.extend_from_slice(name)?;
-    out.extend_from_slice(b":")?;
-    out.extend_from_slice(buffer.format(value).as_bytes())?;
-    out.extend_from_slice(b"\r\n")
+    let digits = buffer.format(value).as_bytes();
+    out.reserve(AROUND + name.len() + digits.len())?;
+    out.extend_from_slice(b"a=").unwrap();
+    out.extend_from_slice(name).unwrap();
+    out.extend_from_slice(b":").unwrap();
+    out.extend_from_slice(digits).unwrap();
+    out.extend_from_slice(b"\r\n").unwrap();
+    Ok(())
 }
 
 fn push_setting(out: &mut Vec<u8>, name: SettingName, value: u32) -> Result<(), AllocError>

@@ -4,17 +4,13 @@ ghost use Rattle.std.specs.Prelude.{◌≡◌};
 ghost use Rattle.std.specs.Option.{option_copied};
 ghost use Rattle.gs_sdp.specs.Lines.{behind as behind_of, without_cr as without_cr_of, value_in as value_in_of, later as later_of, last_value as last_value_of};
 
-use gs_rtsp_text::trim_end;
+use gs_bytes::trim_end;
 
 /// The bytes behind a prefix, where it is one.
 fn behind<'a>(prefix: &[u8], bytes: &'a [u8]) -> Option<&'a [u8]>
     ensures { option_copied result ≡ behind_of prefix.now bytes.now }
 {
-    if bytes.starts_with(prefix) {
-        Some(&bytes[prefix.len()..])
-    } else {
-        None
-    }
+    bytes.strip_prefix(prefix)
 }
 
 /// A line without the CR at its end, if there is one.

@@ -7,8 +7,8 @@ ghost use Rattle.gs_sdp.specs.Table.{name_of, number_in, AreSettings, IsFirstBad
 
 use crate::attributes::{BadSetting, SettingName};
 use crate::lines::last_value;
+use gs_bytes::parse_number;
 use gs_rtp::Settings;
-use gs_rtsp_text::parse_decimal;
 
 /// The packet sizes that may be announced, and the one where none is.
 const PACKET_LEAST: u32 = 1_024;
@@ -48,7 +48,7 @@ fn number(
     let Some(value) = last_value(body, name.attribute()) else {
         return Ok(missing);
     };
-    match parse_decimal(value, most) {
+    match parse_number(value, most) {
         Some(number) => {
             if number >= least {
                 Ok(number)
