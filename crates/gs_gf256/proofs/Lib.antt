@@ -5,3 +5,5 @@ pub mod FieldLemmas
 pub mod FieldSums
 pub mod Powers
 pub mod Inverses
+pub mod LaneLemmas
+pub mod HalfTables

@@ -2,10 +2,10 @@
 
 ghost use Rattle.std.specs.Prelude.{◌≤◌};
 
-use crate::{inv, mul, mul_add};
+use crate::{BLOCK_LEN, TABLE_LEN, inv, mul, mul_add, sum_pair, write_block, write_table};
 use std::process::Abort;
 
-const LONGEST: usize = 70;
+const LONGEST: usize = 200;
 
 #[test]
 fn inverses(rt: HostRuntime) {
@@ -51,7 +51,7 @@ fn bytes_from(first: u8) -> [u8; LONGEST] {
 }
 
 fn expect_sums(rt: &impl Abort, length: usize, k: u8)
-    requires { length ≤ 70 }
+    requires { length ≤ 200 }
 {
     let source = bytes_from(k.wrapping_add(3));
     let before = bytes_from(k.wrapping_mul(5));
@@ -73,5 +73,30 @@ fn sums(rt: HostRuntime) {
         for k in 0..=255u8 {
             expect_sums(&rt, length, k);
         }
+    }
+}
+
+#[test]
+fn sums_of_pairs(rt: HostRuntime) {
+    const LEN: usize = 40;
+    const AT: usize = 7;
+    let shards = bytes_from(91);
+    let mut tables = [0; 6 * TABLE_LEN];
+    for (place, k) in [3, 200, 0, 1, 255, 17].iter().enumerate() {
+        write_table(&mut tables, place * TABLE_LEN, *k);
+    }
+    let (first, second) = sum_pair(&shards, LEN, &[4, 0, 1], AT, &tables);
+    let mut written = [0; 2 * BLOCK_LEN];
+    write_block(&mut written, 0, first);
+    write_block(&mut written, BLOCK_LEN, second);
+    for j in 0..BLOCK_LEN {
+        let a = shards[4 * LEN + AT + j];
+        let b = shards[AT + j];
+        let c = shards[LEN + AT + j];
+        assert_eq!(rt; written[j], mul(3, a) ^ mul(0, b) ^ mul(255, c));
+        assert_eq!(rt;
+            written[BLOCK_LEN + j],
+            mul(200, a) ^ mul(1, b) ^ mul(17, c)
+        );
     }
 }

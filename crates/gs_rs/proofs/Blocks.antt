@@ -8,7 +8,7 @@ use Rattle.std.proofs.lemmas.List.Elements.{All-append}
 use Rattle.std.proofs.lemmas.List.FromFn.{length-map-range_with_len, get_or-map-range_with_len}
 use Rattle.gs_gf256.specs.Field.{IsByte, product, field_sum}
 use Rattle.gs_gf256.proofs.FieldSums.{field_sum-same}
-use Rattle.gs_rs.specs.declared.shape.Shape.{Shape}
+use Rattle.gs_rs.specs.declared.shape.CodeShape.{CodeShape}
 use Rattle.gs_rs.specs.Shape.{IsCode, shard_count, coefficient}
 use Rattle.gs_rs.specs.Codeword.{IsCodeword, HasParityRows, IsBlock, column, shard_of}
 use Rattle.gs_rs.specs.Laws.{EnoughShardsDetermineBlock, EnoughShardsHaveBlock, DataAloneIsBlock, DataAloneHasCodewords}
@@ -73,7 +73,7 @@ pub bytes_of_same_shard : (len : ℕ) (a b : List ℕ) (i k : ℕ) → shard_of 
 bytes_of_same_shard len a b i k e h = sym (shard_at len a i k 0 h) ∙ ap (λ s. get_or s k 0) e ∙ shard_at len b i k 0 h
 
 -- every column of the shards is a codeword, also without parity
-pub record HasColumns (code : Shape) (len : ℕ) (shards : List ℕ) : Type 0 where
+pub record HasColumns (code : CodeShape) (len : ℕ) (shards : List ℕ) : Type 0 where
   pub size : length shards ≡ shard_count code * len
   pub columns : (k : ℕ) → k < len → IsCodeword code (column (shard_count code) len shards k)
 
@@ -99,7 +99,7 @@ bytes_of_columns n len shards size bytes = λ j d h.
     subst IsByte here (bytes k at.1 i 0 (omega (arith, at.0, column_length n len shards k)))
 
 -- the blocks of a code are the shards whose columns are its codewords
-pub block_is_columns : (code : Shape) (len : ℕ) (shards : List ℕ) → IsCode code → IsBlock code len shards ↔ HasColumns code len shards
+pub block_is_columns : (code : CodeShape) (len : ℕ) (shards : List ℕ) → IsCode code → IsBlock code len shards ↔ HasColumns code len shards
 block_is_columns code len shards is = (
   λ block. record {
     size = block.size;
@@ -159,7 +159,7 @@ enough_have code len numbers shards is enough size bytes =
     )
 
 -- a block by its parity rows
-block_from_rows : (code : Shape) (len : ℕ) (block : List ℕ) → IsCode code → length block ≡ shard_count code * len → All IsByte block
+block_from_rows : (code : CodeShape) (len : ℕ) (block : List ℕ) → IsCode code → length block ≡ shard_count code * len → All IsByte block
     → ((k : ℕ) → k < len → HasParityRows code (column (shard_count code) len block k)) → IsBlock code len block
 block_from_rows code len block is size bytes rows =
     record {
@@ -179,7 +179,7 @@ data_alone code len shards no_parity size bytes =
     }
 
 -- data shards, and parity shards after them that are the rows' sums
-pub encoded : (code : Shape) (len : ℕ) (source parity : List ℕ) → IsCode code
+pub encoded : (code : CodeShape) (len : ℕ) (source parity : List ℕ) → IsCode code
     → length source ≡ code.data * len → length parity ≡ code.parity * len → All IsByte source → All IsByte parity
     → ((row k : ℕ) → row < code.parity → k < len
     → get_or parity (row * len + k) 0 ≡ field_sum (λ i. product (coefficient code row i) (get_or source (i * len + k) 0)) code.data)

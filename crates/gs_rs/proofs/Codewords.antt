@@ -9,7 +9,7 @@ use Rattle.gs_gf256.proofs.FieldLemmas.{IsByte-product, product_comm, product_as
 use Rattle.gs_gf256.proofs.FieldSums.{field_sum-same, field_sum-product, IsByte-field_sum}
 use Rattle.gs_gf256.proofs.Inverses.{quotient-product}
 use Rattle.gs_poly.specs.Polynomial.{value, weight, ArePoints, IsPolynomialBelow, PassesThrough}
-use Rattle.gs_rs.specs.declared.shape.Shape.{Shape}
+use Rattle.gs_rs.specs.declared.shape.CodeShape.{CodeShape}
 use Rattle.gs_rs.specs.Shape.{IsCode, shard_count, point, denominator}
 use Rattle.gs_rs.specs.Codeword.{IsCodeword}
 use Rattle.gs_rs.specs.Laws.{AreEnough}
@@ -20,26 +20,26 @@ use Rattle.gs_rs.proofs.Algebra.{product_cancel_r, IsByte-quotient}
 use Rattle.gs_rs.proofs.Points.{IsByte-point, ArePoints-map, IsByte-denominator, denominator-ne-zero}
 
 -- the value that a polynomial has at a shard's point, where the shard's byte is this
-abbrev value_under : Shape → (ℕ → ℕ) → ℕ → ℕ
+abbrev value_under : CodeShape → (ℕ → ℕ) → ℕ → ℕ
 value_under code bytes number = product (bytes number) (denominator code (point code number))
 
-IsByte-denominator_of : (code : Shape) → IsCode code → (number : ℕ) → number < shard_count code → IsByte (denominator code (point code number))
+IsByte-denominator_of : (code : CodeShape) → IsCode code → (number : ℕ) → number < shard_count code → IsByte (denominator code (point code number))
 IsByte-denominator_of code is number within = IsByte-denominator code is (point code number) (IsByte-point code is number within)
 
-denominator_of-ne-zero : (code : Shape) → IsCode code → (number : ℕ) → number < shard_count code → denominator code (point code number) ≢ 0
+denominator_of-ne-zero : (code : CodeShape) → IsCode code → (number : ℕ) → number < shard_count code → denominator code (point code number) ≢ 0
 denominator_of-ne-zero code is number within = denominator-ne-zero code is (point code number) (IsByte-point code is number within)
 
 -- the byte of a shard by the value at its point
-byte_from_value : (code : Shape) → IsCode code → (a b : ℕ → ℕ) (number : ℕ) → number < shard_count code → IsByte (a number) → IsByte (b number)
+byte_from_value : (code : CodeShape) → IsCode code → (a b : ℕ → ℕ) (number : ℕ) → number < shard_count code → IsByte (a number) → IsByte (b number)
     → value_under code a number ≡ value_under code b number → a number ≡ b number
 byte_from_value code is a b number within ha hb e =
     product_cancel_r (a number) (b number) (denominator code (point code number)) ha hb
     (IsByte-denominator_of code is number within) (denominator_of-ne-zero code is number within) e
 
-pub word_byte : (code : Shape) (bytes : List ℕ) → IsCodeword code bytes → (number : ℕ) → number < shard_count code → IsByte (get_or bytes number 0)
+pub word_byte : (code : CodeShape) (bytes : List ℕ) → IsCodeword code bytes → (number : ℕ) → number < shard_count code → IsByte (get_or bytes number 0)
 word_byte code bytes word number within = word.are_bytes number 0 (omega (arith, word.counted))
 
-passes_through : (code : Shape) (numbers bytes : List ℕ) → AreEnough code numbers → (word : IsCodeword code bytes)
+passes_through : (code : CodeShape) (numbers bytes : List ℕ) → AreEnough code numbers → (word : IsCodeword code bytes)
     → PassesThrough (map (point code) numbers) (map (value_under code (λ n. get_or bytes n 0)) numbers) word.polynomial
 passes_through code numbers bytes enough word =
     let points = map (point code) numbers in
@@ -58,12 +58,12 @@ passes_through code numbers bytes enough word =
     }
 
 -- the factor that the byte of point i has in the byte of the shard at x
-pub record IsWeight (code : Shape) (points : List ℕ) (i x w : ℕ) : Type 0 where
+pub record IsWeight (code : CodeShape) (points : List ℕ) (i x w : ℕ) : Type 0 where
   pub is_byte : IsByte w
   pub scaled : product w (denominator code x) ≡ product (denominator code (get_or points i 0)) (weight points i x)
 
 -- a byte of a codeword is a weighted sum of as many others as there are data shards
-pub weighted : (code : Shape) (numbers bytes : List ℕ) (weights : ℕ → ℕ) (shard : ℕ) → IsCode code → AreEnough code numbers
+pub weighted : (code : CodeShape) (numbers bytes : List ℕ) (weights : ℕ → ℕ) (shard : ℕ) → IsCode code → AreEnough code numbers
     → IsCodeword code bytes → shard < shard_count code
     → ((i : ℕ) → i < code.data → IsWeight code (map (point code) numbers) i (point code shard) (weights i))
     → get_or bytes shard 0 ≡ field_sum (λ i. product (weights i) (get_or bytes (get_or numbers i 0) 0)) code.data
@@ -108,7 +108,7 @@ weighted code numbers bytes weights shard is enough word within are_weights =
     ∙ sym (field_sum-product (λ i. product (weights i) (get_or bytes (get_or numbers i 0) 0)) code.data w))
 
 -- two codewords that agree there are the same
-pub same_words : (code : Shape) (numbers a b : List ℕ) → IsCode code → AreEnough code numbers → IsCodeword code a → IsCodeword code b
+pub same_words : (code : CodeShape) (numbers a b : List ℕ) → IsCode code → AreEnough code numbers → IsCodeword code a → IsCodeword code b
     → All (λ n. get_or a n 0 ≡ get_or b n 0) numbers → a ≡ b
 same_words code numbers a b is enough word_a word_b agree =
     let points = map (point code) numbers in
@@ -131,11 +131,11 @@ same_words code numbers a b is enough word_a word_b agree =
     (word_a.values n within ∙ ap (λ cs. value cs (point code n)) same ∙ sym (word_b.values n within)))
 
 -- the codeword that has given bytes there
-pub record IsWordThrough (code : Shape) (numbers : List ℕ) (given : ℕ → ℕ) (bytes : List ℕ) : Type 0 where
+pub record IsWordThrough (code : CodeShape) (numbers : List ℕ) (given : ℕ → ℕ) (bytes : List ℕ) : Type 0 where
   pub is_word : IsCodeword code bytes
   pub agrees : All (λ n. get_or bytes n 0 ≡ given n) numbers
 
-pub word_through : (code : Shape) (numbers : List ℕ) (given : ℕ → ℕ) → IsCode code → AreEnough code numbers → ((n : ℕ) → IsByte (given n))
+pub word_through : (code : CodeShape) (numbers : List ℕ) (given : ℕ → ℕ) → IsCode code → AreEnough code numbers → ((n : ℕ) → IsByte (given n))
     → (bytes : List ℕ) × IsWordThrough code numbers given bytes
 word_through code numbers given is enough given_bytes =
     let points = map (point code) numbers in

@@ -5,6 +5,8 @@ pub mod Codewords
 pub mod Rows
 pub mod Blocks
 pub mod Writes
+pub mod PairWrites
 pub mod Restoring
 pub mod Present
 pub mod Restored
+pub mod HeldShards

@@ -10,12 +10,12 @@ use Rattle.gs_gf256.proofs.AllBelow.{all_below, at_below}
 use Rattle.gs_poly.specs.Polynomial.{ArePoints}
 use Rattle.gs_rs.specs.declared.shape.Form.{Form}
 use Rattle.gs_rs.specs.declared.shape.Form.TheVariants.{Video, Audio}
-use Rattle.gs_rs.specs.declared.shape.Shape.{Shape}
+use Rattle.gs_rs.specs.declared.shape.CodeShape.{CodeShape}
 use Rattle.gs_rs.specs.Shape.{IsCode, shard_count, point, video_point, audio_points, data_points, denominator}
 use Rattle.gs_rs.specs.Laws.{AreEnough}
 use Rattle.gs_rs.proofs.Differences.{IsByte-differences, differences-ne-zero}
 
-abbrev pub shape_of : ℕ → ℕ → Form → Shape
+abbrev pub shape_of : ℕ → ℕ → Form → CodeShape
 shape_of d p form = record { «data» = d; parity = p; form = form }
 
 pub video_below : (d p shard : ℕ) → shard < d → video_point d p shard ≡ p + shard
@@ -59,7 +59,7 @@ in_range_of : (d p : ℕ) (form : Form) → IsCode (shape_of d p form) → (shar
 in_range_of d p Video code shard within = let h = video_in_range d p shard code.points_fit within in omega arith
 in_range_of d p Audio code shard within = let h = code.audio_counts refl in audio_in_range shard (omega arith)
 
-pub IsByte-point : (code : Shape) → IsCode code → (shard : ℕ) → shard < shard_count code → IsByte (point code shard)
+pub IsByte-point : (code : CodeShape) → IsCode code → (shard : ℕ) → shard < shard_count code → IsByte (point code shard)
 IsByte-point code is shard within = in_range_of code.data code.parity code.form is shard within
 
 apart_of : (d p : ℕ) (form : Form) → IsCode (shape_of d p form) → (a b : ℕ) → a < b → b < d + p
@@ -69,14 +69,14 @@ apart_of d p Audio code a b less within e =
     let h = code.audio_counts refl in let rises = audio_rises a b less (omega arith) in omega arith
 
 -- two shards stand at two points
-pub point-apart : (code : Shape) → IsCode code → (a b : ℕ) → a < shard_count code → b < shard_count code → a ≢ b
+pub point-apart : (code : CodeShape) → IsCode code → (a b : ℕ) → a < shard_count code → b < shard_count code → a ≢ b
     → point code a ≢ point code b
 point-apart code is a b in_a in_b other e = elim (cases_lt a b) [
   | inl less ↦ apart_of code.data code.parity code.form is a b less in_b e
   | inr more ↦ apart_of code.data code.parity code.form is b a (omega arith) in_a (sym e)
 ]
 
-pub ArePoints-map : (code : Shape) (numbers : List ℕ) → IsCode code → AreEnough code numbers → ArePoints (map (point code) numbers)
+pub ArePoints-map : (code : CodeShape) (numbers : List ℕ) → IsCode code → AreEnough code numbers → ArePoints (map (point code) numbers)
 ArePoints-map code numbers is enough =
     let size = length-map numbers (point code) in
     record {
@@ -92,7 +92,7 @@ pub range_at : (n i d : ℕ) → i < n → get_or (range_with_len 0 n) i d ≡ i
 range_at n i d h = get_or-range_with_len 0 n i d h ∙ zero-add i
 
 -- an array that begins with the data points
-pub points_from : (code : Shape) (points : List ℕ) → code.data ≤ length points → ((i : ℕ) → i < code.data → get_or points i 0 ≡ point code i)
+pub points_from : (code : CodeShape) (points : List ℕ) → code.data ≤ length points → ((i : ℕ) → i < code.data → get_or points i 0 ≡ point code i)
     → take code.data points ≡ data_points code
 points_from code points room at =
     let d = code.data in
@@ -103,7 +103,7 @@ points_from code points room at =
     get_or-take d points i 0 below ∙ at i below ∙ sym (get_or-map-range_with_len (point code) 0 d i i 0 below (omega arith)))
 
 -- the data shards are enough
-pub data_enough : (code : Shape) → AreEnough code (range_with_len 0 code.data)
+pub data_enough : (code : CodeShape) → AreEnough code (range_with_len 0 code.data)
 data_enough code =
     let n = code.data in
     let size = length-range_with_len 0 n in
@@ -116,25 +116,25 @@ data_enough code =
           λ e. omega arith;
     }
 
-pub data_points_are : (code : Shape) → IsCode code → ArePoints (data_points code)
+pub data_points_are : (code : CodeShape) → IsCode code → ArePoints (data_points code)
 data_points_are code is = ArePoints-map code (range_with_len 0 code.data) is (data_enough code)
 
 denominator_byte_of : (d p : ℕ) (form : Form) → IsCode (shape_of d p form) → (x : ℕ) → IsByte x → IsByte (denominator (shape_of d p form) x)
 denominator_byte_of d p Video is x hx = IsByte-differences (data_points (shape_of d p Video)) x (data_points_are (shape_of d p Video) is).bytes hx
 denominator_byte_of d p Audio is x hx = lit< tt
 
-pub IsByte-denominator : (code : Shape) → IsCode code → (x : ℕ) → IsByte x → IsByte (denominator code x)
+pub IsByte-denominator : (code : CodeShape) → IsCode code → (x : ℕ) → IsByte x → IsByte (denominator code x)
 IsByte-denominator code is x hx = denominator_byte_of code.data code.parity code.form is x hx
 
 denominator_not_zero_of : (d p : ℕ) (form : Form) → IsCode (shape_of d p form) → (x : ℕ) → IsByte x → denominator (shape_of d p form) x ≢ 0
 denominator_not_zero_of d p Video is x hx = differences-ne-zero (data_points (shape_of d p Video)) x (data_points_are (shape_of d p Video) is).bytes hx
 denominator_not_zero_of d p Audio is x hx = λ h. omega arith
 
-pub denominator-ne-zero : (code : Shape) → IsCode code → (x : ℕ) → IsByte x → denominator code x ≢ 0
+pub denominator-ne-zero : (code : CodeShape) → IsCode code → (x : ℕ) → IsByte x → denominator code x ≢ 0
 denominator-ne-zero code is x hx = denominator_not_zero_of code.data code.parity code.form is x hx
 
 -- an array that begins with the points of shards
-pub points_of_numbers : (code : Shape) (numbers points : List ℕ) → length numbers ≡ code.data → code.data ≤ length points
+pub points_of_numbers : (code : CodeShape) (numbers points : List ℕ) → length numbers ≡ code.data → code.data ≤ length points
     → ((i : ℕ) → i < length numbers → get_or points i 0 ≡ point code (get_or numbers i 0)) → take code.data points ≡ map (point code) numbers
 points_of_numbers code numbers points count room at =
     let d = code.data in

@@ -5,7 +5,7 @@ use Rattle.std.specs.List.{All, AllWithin, IsAnyAnswer}
 use Rattle.std.proofs.lemmas.Bool.{false≢true, cases_Bool, MatchBool-at_false}
 use Rattle.std.proofs.lemmas.List.{get_or-take, get_or_default, length-take-le}
 use Rattle.gs_gf256.specs.Field.{IsByte}
-use Rattle.gs_rs.specs.declared.shape.Shape.{Shape}
+use Rattle.gs_rs.specs.declared.shape.CodeShape.{CodeShape}
 use Rattle.gs_rs.specs.Shape.{IsCode, shard_count}
 use Rattle.gs_rs.specs.Codeword.{shard_of}
 use Rattle.gs_rs.specs.Restore.{IsPresent, count_present, data_of, AreLowestPresent, AgreesWhereChosen, RestoresAbsent, RestoresEachBlock, RestoresSomeBlock, KeepsOthers}
@@ -23,7 +23,7 @@ pub chosen_present : (present : List Bool) (count : ℕ) (numbers : List ℕ) �
 chosen_present present count numbers lowest room = λ i d h.
     subst (IsPresent present) (sym (chosen_at count numbers i d h room)) (lowest.are_present i (omega (arith, length-take-le count numbers room)))
 
-pub chosen_enough : (code : Shape) (present : List Bool) (count : ℕ) (numbers : List ℕ) → AreLowestPresent present count numbers → count ≤ length numbers
+pub chosen_enough : (code : CodeShape) (present : List Bool) (count : ℕ) (numbers : List ℕ) → AreLowestPresent present count numbers → count ≤ length numbers
     → count ≡ code.data → length present ≡ shard_count code → AreEnough code (take count numbers)
 chosen_enough code present count numbers lowest room whole size =
     let length_is : length (take count numbers) ≡ count = length-take-le count numbers room in
@@ -42,7 +42,7 @@ chosen_enough code present count numbers lowest room whole size =
           omega arith;
     }
 
-pub restores_each_block : (code : Shape) (len : ℕ) (present : List Bool) (count : ℕ) (numbers before after : List ℕ)
+pub restores_each_block : (code : CodeShape) (len : ℕ) (present : List Bool) (count : ℕ) (numbers before after : List ℕ)
     → AreLowestPresent present count numbers → count ≤ length numbers → count ≡ code.data → length present ≡ shard_count code
     → length after ≡ shard_count code * len
     → RestoresAbsent code len present (take count numbers) before after → KeepsOthers code len present before after
@@ -72,7 +72,7 @@ restores_each_block code len present count numbers before after lowest room whol
     ∙ bytes_of_same_shard len after block i k (shard_same i hi) hk
     ∙ sym (get_or-take (d * len) block (i * len + k) 0 below))
 
-pub restores_some_block : (code : Shape) (len : ℕ) (present : List Bool) (count : ℕ) (numbers before after : List ℕ)
+pub restores_some_block : (code : CodeShape) (len : ℕ) (present : List Bool) (count : ℕ) (numbers before after : List ℕ)
     → IsCode code → AreLowestPresent present count numbers → count ≤ length numbers → count ≡ code.data → length present ≡ shard_count code
     → length after ≡ shard_count code * len → All IsByte after
     → RestoresAbsent code len present (take count numbers) before after → KeepsOthers code len present before after
@@ -108,6 +108,6 @@ data_present present d r answer none room i h =
     not_false (get_or present i false) (subst (λ y. beq y false ≡ false) (get_or-take d present i false h) (flags i false (omega arith) (omega arith)))
 
 -- and then nothing has to be written
-pub nothing_absent : (code : Shape) (len : ℕ) (present : List Bool) (numbers shards : List ℕ) → ((i : ℕ) → i < code.data → IsPresent present i)
+pub nothing_absent : (code : CodeShape) (len : ℕ) (present : List Bool) (numbers shards : List ℕ) → ((i : ℕ) → i < code.data → IsPresent present i)
     → RestoresAbsent code len present numbers shards shards
 nothing_absent code len present numbers shards here = λ block is same number within gone. absurd (gone (here number within))

@@ -9,7 +9,7 @@ use Rattle.gs_gf256.proofs.FieldLemmas.{IsByte-xor, IsByte-product, xor-ne-zero}
 use Rattle.gs_gf256.proofs.FieldSums.{field_sum-same}
 use Rattle.gs_poly.specs.Polynomial.{weight, ArePoints}
 use Rattle.gs_poly.proofs.Differences.{IsByte-weight}
-use Rattle.gs_rs.specs.declared.shape.Shape.{Shape}
+use Rattle.gs_rs.specs.declared.shape.CodeShape.{CodeShape}
 use Rattle.gs_rs.specs.Shape.{IsCode, shard_count, point, denominator, differences}
 use Rattle.gs_rs.specs.Codeword.{IsBlock, column, shard_of}
 use Rattle.gs_rs.specs.Restore.{IsPresent, RestoresAbsent, KeepsOthers}
@@ -29,14 +29,14 @@ pub chosen_apart : (present : List Bool) (numbers : List ℕ) (to : ℕ) → All
     → All (λ n. n ≢ to) numbers
 chosen_apart present numbers to here gone = λ i d h. absent_is_other present (get_or numbers i d) to (here i d h) gone
 
-pub points_apart : (code : Shape) (present : List Bool) (numbers : List ℕ) (to : ℕ) → IsCode code → AreEnough code numbers
+pub points_apart : (code : CodeShape) (present : List Bool) (numbers : List ℕ) (to : ℕ) → IsCode code → AreEnough code numbers
     → All (IsPresent present) numbers → to < code.data → get_or present to false ≡ false
     → All (λ q. q ≢ point code to) (map (point code) numbers)
 points_apart code present numbers to is enough here within gone =
     not_among code numbers to is enough (omega arith) (chosen_apart present numbers to here gone)
 
 -- the numbers that are found from the factors are the weights
-pub weights_are : (code : Shape) (numbers factors weights : List ℕ) (to i : ℕ) → IsCode code → AreEnough code numbers → to < shard_count code
+pub weights_are : (code : CodeShape) (numbers factors weights : List ℕ) (to i : ℕ) → IsCode code → AreEnough code numbers → to < shard_count code
     → All (λ q. q ≢ point code to) (map (point code) numbers) → i < code.data
     → get_or factors i 0 ≡ quotient (denominator code (get_or (map (point code) numbers) i 0)) (differences (map (point code) numbers) (get_or (map (point code) numbers) i 0))
     → get_or weights i 0 ≡ quotient (product (quotient (differences (map (point code) numbers) (point code to)) (denominator code (point code to))) (get_or factors i 0))
@@ -74,7 +74,7 @@ weights_are code numbers factors weights to i is enough within apart i_in factor
     }
 
 -- the same for points and an x that are known to be the shards'
-pub weights_are_at : (code : Shape) (numbers points factors weights : List ℕ) (x to i : ℕ) → points ≡ map (point code) numbers → x ≡ point code to
+pub weights_are_at : (code : CodeShape) (numbers points factors weights : List ℕ) (x to i : ℕ) → points ≡ map (point code) numbers → x ≡ point code to
     → IsCode code → AreEnough code numbers → to < shard_count code
     → All (λ q. q ≢ point code to) (map (point code) numbers) → i < code.data
     → get_or factors i 0 ≡ quotient (denominator code (get_or points i 0)) (differences points (get_or points i 0))
@@ -88,25 +88,25 @@ weights_are_at code numbers points factors weights x to i same_points same_x is 
     (subst (λ qs. get_or weights i 0 ≡ quotient (product (quotient (differences qs x) (denominator code x)) (get_or factors i 0)) (bit_xor x (get_or qs i 0)))
     same_points weight_found))
 
-pub numbers_fit : (code : Shape) (len : ℕ) (numbers shards : List ℕ) → AreEnough code numbers → length shards ≡ shard_count code * len
+pub numbers_fit : (code : CodeShape) (len : ℕ) (numbers shards : List ℕ) → AreEnough code numbers → length shards ≡ shard_count code * len
     → All (λ n. n * len + len ≤ length shards) numbers
 numbers_fit code len numbers shards enough size = λ i d h.
     let fits = row_fits (get_or numbers i d) len (shard_count code) len (enough.in_range i d h) (omega arith) in
     omega arith
 
 -- the absent data shards below a number are restored, and no other shard has changed
-pub record RestoredBelow (code : Shape) (len : ℕ) (present : List Bool) (numbers before after : List ℕ) (bound : ℕ) : Type 0 where
+pub record RestoredBelow (code : CodeShape) (len : ℕ) (present : List Bool) (numbers before after : List ℕ) (bound : ℕ) : Type 0 where
   pub restored : (block : List ℕ) → IsBlock code len block → All (λ n. shard_of len before n ≡ shard_of len block n) numbers
       → (to k : ℕ) → to < bound → ¬ IsPresent present to → k < len → byte_at len after k to ≡ byte_at len block k to
   pub others : (n k : ℕ) → IsPresent present n ⊎ (bound ≤ n) → k < len → byte_at len after k n ≡ byte_at len before k n
 
-pub restored_none : (code : Shape) (len : ℕ) (present : List Bool) (numbers before : List ℕ) → RestoredBelow code len present numbers before before 0
+pub restored_none : (code : CodeShape) (len : ℕ) (present : List Bool) (numbers before : List ℕ) → RestoredBelow code len present numbers before before 0
 restored_none code len present numbers before = record {
   restored = λ block is same to k below gone hk. absurd (omega arith);
   others = λ n k which hk. refl;
 }
 
-pub restored_present : (code : Shape) (len : ℕ) (present : List Bool) (numbers before after : List ℕ) (to : ℕ)
+pub restored_present : (code : CodeShape) (len : ℕ) (present : List Bool) (numbers before after : List ℕ) (to : ℕ)
     → RestoredBelow code len present numbers before after to → get_or present to false ≡ true → RestoredBelow code len present numbers before after (to + 1)
 restored_present code len present numbers before after to so_far here = record {
   restored = λ block is same n k below gone hk. elim (cases_eq n to) [
@@ -119,7 +119,7 @@ restored_present code len present numbers before after to so_far here = record {
   ];
 }
 
-pub restored_more : (code : Shape) (len : ℕ) (present : List Bool) (numbers weights before now after : List ℕ) (to : ℕ) → IsCode code → AreEnough code numbers
+pub restored_more : (code : CodeShape) (len : ℕ) (present : List Bool) (numbers weights before now after : List ℕ) (to : ℕ) → IsCode code → AreEnough code numbers
     → All (IsPresent present) numbers → to < code.data → get_or present to false ≡ false
     → RestoredBelow code len present numbers before now to
     → ((i : ℕ) → i < code.data → IsWeight code (map (point code) numbers) i (point code to) (get_or weights i 0))
@@ -153,14 +153,14 @@ restored_more code len present numbers weights before now after to is enough her
       ];
     }
 
-pub restores_absent : (code : Shape) (len : ℕ) (present : List Bool) (numbers before after : List ℕ) (bound : ℕ)
+pub restores_absent : (code : CodeShape) (len : ℕ) (present : List Bool) (numbers before after : List ℕ) (bound : ℕ)
     → length after ≡ shard_count code * len → code.data ≤ bound
     → RestoredBelow code len present numbers before after bound → RestoresAbsent code len present numbers before after
 restores_absent code len present numbers before after bound size whole all = λ block is_block same to within gone.
     same_shard (shard_count code) len after block to size is_block.size (omega arith) (λ k hk.
     all.restored block is_block same to k (omega arith) gone hk)
 
-pub keeps_others : (code : Shape) (len : ℕ) (present : List Bool) (numbers before after : List ℕ) (bound : ℕ)
+pub keeps_others : (code : CodeShape) (len : ℕ) (present : List Bool) (numbers before after : List ℕ) (bound : ℕ)
     → length before ≡ shard_count code * len → length after ≡ shard_count code * len → bound ≤ code.data
     → RestoredBelow code len present numbers before after bound → KeepsOthers code len present before after
 keeps_others code len present numbers before after bound size_before size_after whole all = λ n within which.

@@ -14,7 +14,7 @@ use Rattle.gs_gf256.proofs.AllBelow.{all_below, at_below}
 use Rattle.gs_poly.specs.Polynomial.{weight}
 use Rattle.gs_rs.specs.declared.shape.Form.{Form}
 use Rattle.gs_rs.specs.declared.shape.Form.TheVariants.{Video, Audio}
-use Rattle.gs_rs.specs.declared.shape.Shape.{Shape}
+use Rattle.gs_rs.specs.declared.shape.CodeShape.{CodeShape}
 use Rattle.gs_rs.specs.Shape.{IsCode, shard_count, point, data_points, audio_row, audio_code, coefficient, differences}
 use Rattle.gs_rs.specs.Codeword.{IsCodeword, HasParityRows}
 use Rattle.gs_rs.specs.Laws.{AreEnough, PointFormIsRowForm}
@@ -25,21 +25,21 @@ use Rattle.gs_rs.proofs.Points.{shape_of, video_above, video_below, IsByte-point
 use Rattle.gs_rs.proofs.Codewords.{IsWeight, weighted, word_through}
 
 -- the point of another shard is none of theirs
-pub not_among : (code : Shape) (numbers : List ℕ) (shard : ℕ) → IsCode code → AreEnough code numbers → shard < shard_count code
+pub not_among : (code : CodeShape) (numbers : List ℕ) (shard : ℕ) → IsCode code → AreEnough code numbers → shard < shard_count code
     → All (λ n. n ≢ shard) numbers → All (λ q. q ≢ point code shard) (map (point code) numbers)
 not_among code numbers shard is enough within other =
     All-map (λ q. q ≢ point code shard) (point code) numbers (λ k d h.
     point-apart code is (get_or numbers k d) shard (enough.in_range k d h) within (other k d h))
 
-data_point : (code : Shape) (i : ℕ) → i < code.data → get_or (data_points code) i 0 ≡ point code i
+data_point : (code : CodeShape) (i : ℕ) → i < code.data → get_or (data_points code) i 0 ≡ point code i
 data_point code i h =
     let here : i < length (range_with_len 0 code.data) = omega (arith, length-range_with_len 0 code.data) in
     get_or-map (point code) (range_with_len 0 code.data) i 0 0 here ∙ ap (point code) (range_at code.data i 0 h)
 
-data_points_length : (code : Shape) → length (data_points code) ≡ code.data
+data_points_length : (code : CodeShape) → length (data_points code) ≡ code.data
 data_points_length code = length-map (range_with_len 0 code.data) (point code) ∙ length-range_with_len 0 code.data
 
-parity_not_data : (code : Shape) (shard : ℕ) → IsCode code → code.data ≤ shard → shard < shard_count code
+parity_not_data : (code : CodeShape) (shard : ℕ) → IsCode code → code.data ≤ shard → shard < shard_count code
     → All (λ q. q ≢ point code shard) (data_points code)
 parity_not_data code shard is above within =
     not_among code (range_with_len 0 code.data) shard is (data_enough code) within (λ k d h.
@@ -48,7 +48,7 @@ parity_not_data code shard is above within =
     λ same. omega arith)
 
 -- the weight of a data point at a parity shard's point
-weight_at_parity : (code : Shape) (shard i : ℕ) → IsCode code → code.data ≤ shard → shard < shard_count code → i < code.data
+weight_at_parity : (code : CodeShape) (shard i : ℕ) → IsCode code → code.data ≤ shard → shard < shard_count code → i < code.data
     → product (product (weight (data_points code) i (point code shard)) (differences (data_points code) (point code i)))
     (bit_xor (point code shard) (point code i)) ≡ differences (data_points code) (point code shard)
 weight_at_parity code shard i is above within h =
@@ -154,11 +154,11 @@ coefficient_of d p Audio row i is row_in i_in =
     (audio_coefficient row i (omega arith) (omega arith))
 
 -- a coefficient is the weight of a data shard in a parity shard
-coefficient_is_weight : (code : Shape) (row i : ℕ) → IsCode code → row < code.parity → i < code.data
+coefficient_is_weight : (code : CodeShape) (row i : ℕ) → IsCode code → row < code.parity → i < code.data
     → IsWeight code (data_points code) i (point code (code.data + row)) (coefficient code row i)
 coefficient_is_weight code row i is row_in i_in = coefficient_of code.data code.parity code.form row i is row_in i_in
 
-rows_from_word : (code : Shape) (bytes : List ℕ) → IsCode code → IsCodeword code bytes → (row : ℕ) → row < code.parity
+rows_from_word : (code : CodeShape) (bytes : List ℕ) → IsCode code → IsCodeword code bytes → (row : ℕ) → row < code.parity
     → get_or bytes (code.data + row) 0 ≡ field_sum (λ i. product (coefficient code row i) (get_or bytes i 0)) code.data
 rows_from_word code bytes is word row row_in =
     let d = code.data in
@@ -172,7 +172,7 @@ byte_or_zero bytes all n = elim (cases_lt n (length bytes)) [
   | inr high ↦ let e = get_or_past bytes n 0 high in omega arith
 ]
 
-word_from_rows : (code : Shape) (bytes : List ℕ) → IsCode code → HasParityRows code bytes → IsCodeword code bytes
+word_from_rows : (code : CodeShape) (bytes : List ℕ) → IsCode code → HasParityRows code bytes → IsCodeword code bytes
 word_from_rows code bytes is rows =
     let d = code.data in
     let numbers = range_with_len 0 d in

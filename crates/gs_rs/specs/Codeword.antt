@@ -3,12 +3,12 @@ use Rattle.std.specs.Prelude.{◌≡◌, ℕ, ◌+◌, ◌*◌, ◌<◌, List, m
 use Rattle.std.specs.List.{range_with_len}
 use Rattle.gs_gf256.specs.Field.{IsByte, product, field_sum}
 use Rattle.gs_poly.specs.Polynomial.{value, IsPolynomialBelow}
-use Rattle.gs_rs.specs.declared.shape.Shape.{Shape}
+use Rattle.gs_rs.specs.declared.shape.CodeShape.{CodeShape}
 use Rattle.gs_rs.specs.Shape.{shard_count, point, denominator, coefficient}
 
 -- A byte for each shard, such that one polynomial N with a coefficient for each data shard gives the byte of the shard at
 -- each point p as N(p) divided by the denominator of p.
-pub record IsCodeword (code : Shape) (bytes : List ℕ) : Type 0 where
+pub record IsCodeword (code : CodeShape) (bytes : List ℕ) : Type 0 where
   pub counted : length bytes ≡ shard_count code
   pub are_bytes : All IsByte bytes
   pub polynomial : List ℕ
@@ -17,7 +17,7 @@ pub record IsCodeword (code : Shape) (bytes : List ℕ) : Type 0 where
       → product (slice_index bytes shard) (denominator code (point code shard)) ≡ value polynomial (point code shard)
 
 -- A byte for each shard, such that each parity byte is the sum of the data bytes, each times its coefficient.
-pub record HasParityRows (code : Shape) (bytes : List ℕ) : Type 0 where
+pub record HasParityRows (code : CodeShape) (bytes : List ℕ) : Type 0 where
   pub counted : length bytes ≡ shard_count code
   pub are_bytes : All IsByte bytes
   pub rows : (row : ℕ) → row < code.parity
@@ -29,7 +29,7 @@ column n len shards k = map (λ i. slice_index shards (i * len + k)) (range_with
 
 -- The shards of a block, of one length, laid end to end: the data shards, then the parity shards. Without parity shards
 -- any data is a block.
-pub record IsBlock (code : Shape) (len : ℕ) (block : List ℕ) : Type 0 where
+pub record IsBlock (code : CodeShape) (len : ℕ) (block : List ℕ) : Type 0 where
   pub size : length block ≡ shard_count code * len
   pub bytes : All IsByte block
   pub columns : 0 < code.parity → (k : ℕ) → k < len → IsCodeword code (column (shard_count code) len block k)

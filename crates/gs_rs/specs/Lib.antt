@@ -2,3 +2,5 @@ pub mod Shape
 pub mod Codeword
 pub mod Restore
 pub mod Laws
+pub mod Shards
+pub mod ShardLaws

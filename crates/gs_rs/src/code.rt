@@ -1,9 +1,9 @@
 // The two codes that callers make.
 ghost use Rattle.std.specs.Prelude.{◌≡◌, ◌+◌, ◌<◌, ◌⊎◌, ◌↔◌, IsErr, IfOk};
-ghost use Rattle.gs_rs.specs.declared.shape.Shape.{Shape};
+ghost use Rattle.gs_rs.specs.declared.shape.CodeShape.{CodeShape};
 ghost use Rattle.gs_rs.specs.Shape.{IsCode, video_code, audio_code};
 
-use crate::shape::{Form, MAX_SHARDS, Shape};
+use crate::shape::{CodeShape, Form, MAX_SHARDS};
 use std::marker::Model;
 
 const AUDIO_DATA: usize = 4;
@@ -17,11 +17,11 @@ pub struct BadCounts;
 /// An erasure code. Contracts see it as its counts and its form.
 #[derive(Clone, Copy, Debug, PartialEq, Eq)]
 pub struct Code {
-    shape: Shape,
+    shape: CodeShape,
 }
 
 impl Model for Code {
-    ghost Value = { Shape };
+    ghost Value = { CodeShape };
 
     ghost view = { λ c. c.shape };
 
@@ -40,7 +40,7 @@ impl Code {
             return Err(BadCounts);
         }
         Ok(Code {
-            shape: Shape {
+            shape: CodeShape {
                 data: d,
                 parity: p,
                 form: Form::Video,
@@ -53,7 +53,7 @@ impl Code {
         ensures { result ≡ audio_code }
     {
         Code {
-            shape: Shape {
+            shape: CodeShape {
                 data: AUDIO_DATA,
                 parity: AUDIO_PARITY,
                 form: Form::Audio,
@@ -77,7 +77,7 @@ impl Code {
         self.shape.parity
     }
 
-    pub(crate) fn shape(&self) -> Shape
+    pub(crate) fn shape(&self) -> CodeShape
         ensures counts { result ≡ self.now }
         ensures limits { IsCode result }
     {

@@ -9,6 +9,7 @@ ghost use Rattle.gs_rs.specs.Laws.{
   DataAloneIsBlock,
   DataAloneHasCodewords,
 };
+ghost use Rattle.gs_rs.specs.ShardLaws.{HeldShardsHoldBlock, ShardsFormBlock, HeldShardsFixBlock};
 
 /// Any D shards of a block determine it, and D shards of any content are those of a block.
 /// Without parity shards any data is a block.
@@ -21,4 +22,14 @@ pub fn code_laws()
     ensures existing { EnoughShardsHaveBlock }
     ensures without_parity { DataAloneIsBlock }
     ensures data_columns { DataAloneHasCodewords }
+{}
+
+/// Laws: data shards, with their parity shards behind them, are a block; where there is no parity, any number of
+/// data shards is one. Any shards of a block, as many as it has data shards and no two of one number, fix it:
+/// whatever the block, those of its data shards that are held, and what is restored in place of the others, are
+/// that block's data shards.
+pub fn held_shards_hold_block()
+    ensures data { HeldShardsHoldBlock }
+    ensures forms { ShardsFormBlock }
+    ensures fixed { HeldShardsFixBlock }
 {}

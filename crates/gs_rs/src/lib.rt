@@ -23,12 +23,13 @@
 mod code;
 mod encode;
 mod laws;
+mod pair;
 mod restore;
 mod shape;
 #[cfg(test)]
 mod tests;
 
 pub use code::{BadCounts, Code};
-pub use laws::code_laws;
+pub use laws::{code_laws, held_shards_hold_block};
 pub use restore::TooFew;
-pub use shape::{Form, MAX_SHARDS, Shape};
+pub use shape::{CodeShape, Form, MAX_SHARDS};

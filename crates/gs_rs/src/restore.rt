@@ -34,7 +34,7 @@ ghost use Rattle.gs_rs.specs.Restore.{
 ghost use Rattle.gs_rs.specs.Laws.{AreEnough};
 
 use crate::code::Code;
-use crate::shape::{MAX_SHARDS, Shape, differences};
+use crate::shape::{CodeShape, MAX_SHARDS, differences};
 use gs_gf256::{inv, mul, mul_add};
 
 /// Fewer shards are present than the code has data shards.
@@ -84,7 +84,7 @@ fn lowest_present(present: &[bool], limit: usize) -> (usize, [u8; MAX_SHARDS])
     (count, numbers)
 }
 
-impl Shape {
+impl CodeShape {
     /// Writes each absent data shard as a weighted sum of the chosen shards.
     fn restore_absent(&self, len: usize, shards: &mut [u8], present: &[bool], chosen: &[u8])
         requires code { IsCode self.now }

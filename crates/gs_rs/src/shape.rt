@@ -29,13 +29,13 @@ pub enum Form {
 
 /// A code's counts of shards and its form.
 #[derive(Clone, Copy, Debug, PartialEq, Eq)]
-pub struct Shape {
+pub struct CodeShape {
     pub data: usize,
     pub parity: usize,
     pub form: Form,
 }
 
-impl Shape {
+impl CodeShape {
     /// The point at which a shard stands.
     pub(crate) fn point(&self, shard: usize) -> u8
         requires code { IsCode self.now }

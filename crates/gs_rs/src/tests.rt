@@ -64,6 +64,28 @@ fn counts(rt: HostRuntime) {
     assert_eq!(rt; Code::video(usize::MAX, usize::MAX), Err(BadCounts));
 }
 
+// Longer shards are coded by blocks, and each of their columns as shards of one byte are.
+#[test]
+fn columns(rt: HostRuntime) -> Result<(), Fail> {
+    const LONG: usize = 71;
+    let code = Code::video(3, 5).ok().ok_or("counts")?;
+    let mut block = [0; 8 * LONG];
+    for i in 0..block.len() {
+        block[i] = ((i * i * 11 + i * 3 + 9) % 256) as u8;
+    }
+    let (source, parity) = block.split_at_mut(3 * LONG);
+    code.encode(LONG, source, parity);
+    for k in 0..LONG {
+        let column = [source[k], source[LONG + k], source[2 * LONG + k]];
+        let mut rows = [0; 5];
+        code.encode(1, &column, &mut rows);
+        for row in 0..5 {
+            assert_eq!(rt; parity[row * LONG + k], rows[row]);
+        }
+    }
+    Ok(())
+}
+
 #[test]
 fn every_loss(rt: HostRuntime) -> Result<(), Fail> {
     losses(&rt, &Code::audio());
