@@ -1,3 +1,4 @@
 pub mod VideoHeads
 pub mod VideoReading
 mod Writes
+mod AudioReading

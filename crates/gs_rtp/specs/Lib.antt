@@ -2,3 +2,4 @@ pub mod Settings
 pub mod Video
 pub mod Stream
 pub mod Audio
+pub mod AudioDatagrams

@@ -63,8 +63,11 @@ video_header h =
 
 -- the length of the RTP part: bit 0x10 of the first byte says that four reserved bytes follow the 12 of
 -- the fixed header
+abbrev pub rtp_length_after : ℕ → ℕ
+rtp_length_after first = if first / 0x10 % 2 == 1 then 16 else 12
+
 abbrev pub rtp_length : List ℕ → ℕ
-rtp_length bytes = if slice_index bytes 0 / 0x10 % 2 == 1 then 16 else 12
+rtp_length bytes = rtp_length_after (slice_index bytes 0)
 
 -- the fields at their places, where the RTP part has this length
 abbrev pub fields_after : ℕ → List ℕ → VideoHead

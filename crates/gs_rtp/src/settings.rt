@@ -3,34 +3,37 @@
 ghost use Rattle.std.specs.Prelude.{◌≡◌, ◌≤◌, ◌↔◌, ◌||◌, ◌==◌, IsTrue, IsSome, IfSome};
 ghost use Rattle.gs_rtp.specs.Settings.{IsWithinLimits};
 
-// The least and the greatest packet size, in bytes.
-const PACKET_LEAST: u16 = 1_024;
+/// The least packet size, in bytes.
+pub const PACKET_LEAST: u16 = 1_024;
 
-const PACKET_GREATEST: u16 = 1_440;
+/// The greatest packet size, in bytes.
+pub const PACKET_GREATEST: u16 = 1_440;
 
-// The greatest percentage of parity.
-const PERCENTAGE_GREATEST: u8 = 100;
+/// The greatest percentage of parity.
+pub const PERCENTAGE_GREATEST: u8 = 100;
 
-// The greatest number of parity shards that each block has at least.
-const MINIMUM_GREATEST: u8 = 2;
+/// The greatest number of parity shards that each block has at least.
+pub const MINIMUM_GREATEST: u8 = 2;
 
-// The least and the greatest number of frames per second.
-const FPS_LEAST: u16 = 1;
+/// The least number of frames per second.
+pub const FPS_LEAST: u16 = 1;
 
-const FPS_GREATEST: u16 = 240;
+/// The greatest number of frames per second.
+pub const FPS_GREATEST: u16 = 240;
 
 // The durations of an audio unit, in milliseconds.
 const DURATION_SHORT: u8 = 5;
 
 const DURATION_LONG: u8 = 10;
 
-// The greatest length of an audio unit, in bytes.
-const AUDIO_GREATEST: u16 = 1_400;
+/// The greatest length of an audio unit, in bytes.
+pub const AUDIO_GREATEST: u16 = 1_400;
 
-// The least and the greatest number of a session.
-const SSRC_LEAST: u32 = 1;
+/// The least number of a session.
+pub const SSRC_LEAST: u32 = 1;
 
-const SSRC_GREATEST: u32 = 9_999;
+/// The greatest number of a session.
+pub const SSRC_GREATEST: u32 = 9_999;
 
 /// The settings of a session's stream.
 #[derive(Clone, Copy, Debug, PartialEq, Eq)]
