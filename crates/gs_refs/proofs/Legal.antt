@@ -1,19 +1,12 @@
 -- What a legal history keeps.
-use Rattle.std.proofs.Common.{◌≡◌, ◌<◌, ◌≤◌, ◌+◌, ◌-◌, ℕ, List, [], ◌∷◌, Some, sym, ap, subst, arith, inl, inr}
-use Rattle.std.specs.Prelude.{◌==◌, slice_get}
-use Rattle.std.proofs.lemmas.Bool.{cond-true, cond-false, cases_eq, cases_lt, eq-eqb, ne_eqb}
-use Rattle.gs_tape.specs.Tick.{Tick}
+use Rattle.std.proofs.Common.{◌≡◌, ◌<◌, ◌≤◌, ◌+◌, ℕ, List, [], ◌∷◌, Some, sym, ap, subst, arith, inl, inr}
+use Rattle.std.proofs.lemmas.Bool.{cases_eq, cases_lt}
+use Rattle.gs_tape.specs.Tick.{Tick, tick_numbered}
 use Rattle.gs_refs.specs.declared.entry.Entry.{Entry}
 use Rattle.gs_refs.specs.declared.entry.Entry.TheVariants.{Sent, Invalid, IdrAsked, Ended}
 use Rattle.gs_refs.specs.History.{frames, tick_of, last_tick}
 use Rattle.gs_refs.specs.Choice.{IsLegal}
-
-pub tick_of-sent : (h : List Entry) (tick kind reference v : ℕ) → v ≡ frames h + 1 → tick_of (Sent tick kind reference ∷ h) v ≡ tick
-tick_of-sent h tick kind reference v e = cond-true (v == frames h + 1) tick (tick_of h v) (eq-eqb v (frames h + 1) e)
-
-pub tick_of-before : (h : List Entry) (tick kind reference v : ℕ) → v ≤ frames h → tick_of (Sent tick kind reference ∷ h) v ≡ tick_of h v
-tick_of-before h tick kind reference v most =
-    cond-false (v == frames h + 1) tick (tick_of h v) (ne_eqb v (frames h + 1) (λ e. absurd (omega (arith, e))))
+use Rattle.gs_refs.proofs.Lookups.{tick_of-sent, tick_of-before}
 
 pub ticks_rise : (ticks : List Tick) (h : List Entry) (v w : ℕ) → IsLegal ticks h → 1 ≤ v → v < w → w ≤ frames h → tick_of h v < tick_of h w
 ticks_rise ticks [] v w legal least rises most = absurd (omega arith)
@@ -38,7 +31,7 @@ ticks_rise ticks (IdrAsked ∷ h) v w legal least rises most = ticks_rise ticks 
 ticks_rise ticks (Ended first last ∷ h) v w legal least rises most = ticks_rise ticks h v w legal.0 least rises most
 
 abbrev IsThere : List Tick → ℕ → Type 0
-IsThere ticks n = (1 ≤ n) × (t : Tick) × (slice_get ticks (n - 1) ≡ Some t)
+IsThere ticks n = (t : Tick) × (tick_numbered ticks n ≡ Some t)
 
 pub frames_are_of_ticks : (ticks : List Tick) (h : List Entry) (v : ℕ) → IsLegal ticks h → 1 ≤ v → v ≤ frames h → IsThere ticks (tick_of h v)
 frames_are_of_ticks ticks [] v legal least most = absurd (omega arith)
@@ -46,7 +39,7 @@ frames_are_of_ticks ticks (Sent tick kind reference ∷ h) v legal least most =
     let There : ℕ → Type 0 = IsThere ticks in
     let later : last_tick h < tick = legal.2.0 in
     elim (cases_eq v (frames h + 1)) [
-      | inl last ↦ subst There (sym (tick_of-sent h tick kind reference v last)) (omega arith, legal.2.1, legal.2.2)
+      | inl last ↦ subst There (sym (tick_of-sent h tick kind reference v last)) (legal.2.1, legal.2.2)
       | inr other ↦
           let within : v ≤ frames h = omega arith in
           subst There (sym (tick_of-before h tick kind reference v within)) (frames_are_of_ticks ticks h v legal.0 least within)

@@ -1,3 +1,4 @@
 mod Examples
 pub mod Choices
+pub mod Lookups
 pub mod Legal

@@ -1,7 +1,7 @@
 -- Which unit of a tick a host sends, and which histories it may have.
-use Rattle.std.specs.Prelude.{ℕ, zero, suc, ◌≡◌, ◌-◌, ◌<◌, ◌≤◌, pos, ◌≤ℤ◌, Bool, false, ◌&&◌, ◌||◌, List, [], ◌∷◌, Option, Some, None, slice_get, ◌==◌, if◌then◌else◌}
+use Rattle.std.specs.Prelude.{ℕ, zero, suc, ◌≡◌, ◌<◌, ◌≤◌, pos, ◌≤ℤ◌, Bool, false, ◌&&◌, ◌||◌, List, [], ◌∷◌, Option, Some, None, ◌==◌, if◌then◌else◌}
 use Rattle.std.specs.List.{list_any}
-use Rattle.gs_tape.specs.Tick.{Tick}
+use Rattle.gs_tape.specs.Tick.{Tick, tick_numbered}
 use Rattle.gs_refs.specs.declared.entry.Entry.{Entry}
 use Rattle.gs_refs.specs.declared.entry.Entry.TheVariants.{Sent, Invalid, IdrAsked, Ended}
 use Rattle.gs_refs.specs.History.{frames, tick_of, last_tick, is_valid, idr_is_owed, has_ended}
@@ -47,7 +47,8 @@ IsRange sent first last = (1 ≤ first) × (first ≤ last) × (last ≤ sent)
 -- tick, what is invalid is a range of frames that were sent, and a range that isn't one ends it.
 abbrev pub MayFollow : List Tick → List Entry → Entry → Type 0
 MayFollow ticks h (Sent tick kind reference) =
-    (last_tick h < tick) × (t : Tick) × (slice_get ticks (tick - 1) ≡ Some t) × (choice h t ≡ record { kind = kind; reference = reference })
+    (last_tick h < tick) × (t : Tick) × (tick_numbered ticks tick ≡ Some t)
+    × (choice h t ≡ record { kind = kind; reference = reference })
 MayFollow ticks h (Invalid first last) = IsRange (frames h) first last
 MayFollow ticks h IdrAsked = Unit {0}
 MayFollow ticks h (Ended first last) = (pos 1 ≤ℤ first) → (first ≤ℤ last) → (last ≤ℤ pos (frames h)) → ⊥

@@ -1,6 +1,6 @@
 -- What a choice refers to, and what a legal history keeps.
-use Rattle.std.specs.Prelude.{ℕ, ◌≡◌, ◌≢◌, ◌⊎◌, ◌+◌, ◌-◌, ◌<◌, ◌≤◌, true, List, Some, slice_get}
-use Rattle.gs_tape.specs.Tick.{Tick}
+use Rattle.std.specs.Prelude.{ℕ, ◌≡◌, ◌≢◌, ◌⊎◌, ◌<◌, ◌≤◌, true, List, Some}
+use Rattle.gs_tape.specs.Tick.{Tick, tick_numbered}
 use Rattle.gs_refs.specs.declared.entry.Entry.{Entry}
 use Rattle.gs_refs.specs.History.{frames, tick_of, IsValid}
 use Rattle.gs_refs.specs.Choice.{Choice, names, choice, IsLegal}
@@ -21,13 +21,14 @@ ChoiceIsSound = (h : List Entry) (t : Tick) → IsSound h t (choice h t)
 abbrev pub ValidFramesWereSent : Type 0
 ValidFramesWereSent = (h : List Entry) (v : ℕ) → IsValid h v → (1 ≤ v) × (v ≤ frames h)
 
--- in a legal history a later frame is from a tick that is later by this much at least
-abbrev pub TicksRiseBy : ℕ → Type 0
-TicksRiseBy step =
-    (ticks : List Tick) (h : List Entry) (v w : ℕ) → IsLegal ticks h → 1 ≤ v → v < w → w ≤ frames h → tick_of h v + step ≤ tick_of h w
+-- in a legal history a later frame is from a later tick
+abbrev pub TicksRise : Type 0
+TicksRise =
+    (ticks : List Tick) (h : List Entry) (v w : ℕ) → IsLegal ticks h → 1 ≤ v → v < w → w ≤ frames h
+    → tick_of h v < tick_of h w
 
 -- and each frame is from a tick of the capture
 abbrev pub FramesAreOfTicks : Type 0
 FramesAreOfTicks =
     (ticks : List Tick) (h : List Entry) (v : ℕ) → IsLegal ticks h → 1 ≤ v → v ≤ frames h
-    → (1 ≤ tick_of h v) × (t : Tick) × (slice_get ticks (tick_of h v - 1) ≡ Some t)
+    → (t : Tick) × (tick_numbered ticks (tick_of h v) ≡ Some t)

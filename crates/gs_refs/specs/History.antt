@@ -1,5 +1,5 @@
 -- A session's history is a list of entries, the newest first: what stands behind an entry is earlier.
-use Rattle.std.specs.Prelude.{ℕ, ◌≡◌, ◌+◌, Bool, true, false, ◌&&◌, ◌||◌, not, List, [], ◌∷◌, nat_lt, ◌==◌, if◌then◌else◌}
+use Rattle.std.specs.Prelude.{ℕ, ◌≡◌, ◌+◌, Bool, true, false, ◌&&◌, ◌||◌, not, List, [], ◌∷◌, Option, Some, None, nat_lt, ◌==◌, if◌then◌else◌}
 use Rattle.gs_refs.specs.declared.entry.Entry.{Entry}
 use Rattle.gs_refs.specs.declared.entry.Entry.TheVariants.{Sent, Invalid, IdrAsked, Ended}
 
@@ -11,13 +11,63 @@ frames (Invalid first last ∷ h) = frames h
 frames (IdrAsked ∷ h) = frames h
 frames (Ended first last ∷ h) = frames h
 
+-- What a frame was sent as: from which tick, of which kind, and, where it refers to another frame, that frame and the
+-- tick of that frame, which its unit is a delta against.
+pub record SentFrame : Type 0 where
+  pub tick : ℕ
+  pub kind : ℕ
+  pub reference : Option ℕ
+  pub against : Option ℕ
+
+-- A frame of kind 1 or 5 refers to another, and an IDR frame to none.
+abbrev pub refers : ℕ → Bool
+refers kind = kind == 1 || kind == 5
+
+abbrev pub where_it_refers : ℕ → ℕ → Option ℕ
+where_it_refers kind number = if refers kind then Some number else None
+
+abbrev pub sent_as : ℕ → ℕ → ℕ → ℕ → SentFrame
+sent_as tick kind reference against = record {
+  tick = tick;
+  kind = kind;
+  reference = where_it_refers kind reference;
+  against = where_it_refers kind against;
+}
+
+abbrev pub tick_or_zero : Option SentFrame → ℕ
+tick_or_zero None = 0
+tick_or_zero (Some f) = f.tick
+
+-- frame v, where it was sent
+abbrev pub sent_frame : List Entry → ℕ → Option SentFrame
+sent_frame [] v = None
+sent_frame (Sent tick kind reference ∷ h) v =
+    if v == frames h + 1
+    then Some (sent_as tick kind reference (tick_or_zero (sent_frame h reference)))
+    else sent_frame h v
+sent_frame (Invalid first last ∷ h) v = sent_frame h v
+sent_frame (IdrAsked ∷ h) v = sent_frame h v
+sent_frame (Ended first last ∷ h) v = sent_frame h v
+
 -- the tick of frame v, 0 where it wasn't sent
 abbrev pub tick_of : List Entry → ℕ → ℕ
-tick_of [] v = 0
-tick_of (Sent tick kind reference ∷ h) v = if v == frames h + 1 then tick else tick_of h v
-tick_of (Invalid first last ∷ h) v = tick_of h v
-tick_of (IdrAsked ∷ h) v = tick_of h v
-tick_of (Ended first last ∷ h) v = tick_of h v
+tick_of h v = tick_or_zero (sent_frame h v)
+
+abbrev pub kind_or_zero : Option SentFrame → ℕ
+kind_or_zero None = 0
+kind_or_zero (Some f) = f.kind
+
+-- the kind of frame v, 0 where it wasn't sent
+abbrev pub frame_kind : List Entry → ℕ → ℕ
+frame_kind h v = kind_or_zero (sent_frame h v)
+
+abbrev pub reference_or_none : Option SentFrame → Option ℕ
+reference_or_none None = None
+reference_or_none (Some f) = f.reference
+
+-- the frame that frame v refers to, where it refers to one
+abbrev pub reference_of : List Entry → ℕ → Option ℕ
+reference_of h v = reference_or_none (sent_frame h v)
 
 -- the tick of the last frame, 0 where none was sent
 abbrev pub last_tick : List Entry → ℕ

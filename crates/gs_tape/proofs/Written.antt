@@ -1,7 +1,7 @@
 -- What the readings of a capture file's fields give of fields that were written.
 use Rattle.std.proofs.Common.{◌≡◌, ◌<◌, ◌≤◌, ◌+◌, ◌-◌, ◌^◌, ℕ, suc, Bool, false, ◌||◌, List, [], ◌∷◌, ◌++◌, length, take, drop, Result, Ok, refl, ap, ◌∙◌, arith, append_assoc, length-append}
 use Rattle.std.specs.Prelude.{nat_lt, nat_le}
-use Rattle.std.specs.List.{AllByRecursion, flat_map, concat, sum_by}
+use Rattle.std.specs.List.{AllByRecursion, flat_map, concat}
 use Rattle.std.proofs.lemmas.Bool.{le-ltb, lt-leb, or_from}
 use Rattle.std.proofs.lemmas.List.{take_at, drop_at}
 use Rattle.std.proofs.lemmas.List.Sums.{sum_by-cons}
@@ -11,6 +11,7 @@ use Rattle.gs_tape.specs.Tick.{Delta}
 use Rattle.gs_tape.specs.Capture.{unit, delta}
 use Rattle.gs_tape.specs.Reading.{Fault, Malformed, Full, UnitTooLarge, ◌>>=◌, unless, bytes_at, number_at, most_unit, most_bytes, most_ticks, unit_at, deltas_at, audio_at}
 use Rattle.gs_tape.specs.Limits.{AreDeltasBetween}
+use Rattle.gs_tape.proofs.Readings.{delta_bytes}
 
 pub then_ok : {A B : Type 0} (r : Result A Fault) (x : A) (f : A → Result B Fault) (y : Result B Fault) → r ≡ Ok x → f x ≡ y → (r >>= f) ≡ y
 then_ok r x f y e k = ap (λ s. s >>= f) e ∙ k
@@ -45,9 +46,6 @@ unit_read size number held bytes rest most room =
     (then_ok (unless (nat_lt most_bytes (held + length bytes)) (Full number) (Ok (bytes ++ rest))) (bytes ++ rest) _ _
     (unless_ok (nat_lt most_bytes (held + length bytes)) (Full number) (Ok (bytes ++ rest)) (le-ltb most_bytes (held + length bytes) room))
     (bytes_read size (length bytes) bytes rest refl)))
-
-abbrev pub delta_bytes : List Delta → ℕ
-delta_bytes ds = sum_by (λ d. length d.unit) ds
 
 pub deltas_read : (size number above held : ℕ) (ds : List Delta) (rest : List ℕ) → number ≤ most_ticks → AreDeltasBetween above number ds → held + delta_bytes ds ≤ most_bytes
     → deltas_at (length ds) size number above held (flat_map delta ds ++ rest) ≡ Ok (ds, (held + delta_bytes ds, rest))

@@ -1,7 +1,7 @@
 -- A capture file that was written is read as the ticks that it was written of.
 use Rattle.std.proofs.Common.{◌≡◌, ◌⊎◌, ◌<◌, ◌≤◌, ◌+◌, ◌-◌, ◌*◌, ℕ, zero, suc, Bool, true, false, not, ◌&&◌, ◌||◌, List, [], ◌∷◌, ◌++◌, length, Some, None, Result, Ok, refl, sym, ap, subst, ◌∙◌, arith, inl, inr, append_assoc, length-append}
 use Rattle.std.specs.Prelude.{nat_lt, ◌==◌, codes}
-use Rattle.std.specs.List.{AllByRecursion, flat_map, concat, sum_by}
+use Rattle.std.specs.List.{flat_map, concat, sum_by}
 use Rattle.std.proofs.lemmas.Bool.{le-ltb, or_from, cases_eq, eq-eqb, ne_eqb, and_right}
 use Rattle.std.proofs.lemmas.List.Elements.{recursion_from_All}
 use Rattle.std.proofs.lemmas.List.Sums.{sum_by-cons}
@@ -9,31 +9,17 @@ use Rattle.byteorder.specs.Endian.{little_bytes, little_number}
 use Rattle.gs_tape.specs.Tick.{Tick}
 use Rattle.gs_tape.specs.Capture.{head, unit, delta, tick, file}
 use Rattle.gs_tape.specs.Reading.{Fault, Malformed, Full, AudioLength, unless, number_at, text_at, head_at, most_bytes, most_count, most_ticks, most_audio, unit_at, deltas_at, audio_at, Before, tick_at, ends_with, and_then, with_tick, ticks_at, before_first, read_behind, read}
-use Rattle.gs_tape.specs.Limits.{IsWithinLimits, AreWithinLimits}
-use Rattle.gs_tape.specs.RoundTrip.{unit_bytes, AreWritable}
-use Rattle.gs_tape.proofs.Written.{then_ok, unless_ok, number_read, unit_read, delta_bytes, deltas_read, sounds_read}
-
--- the bytes of audio units that have one length
-audio_bytes : (each : ℕ) (us : List (List ℕ)) → AllByRecursion (λ u. length u ≡ each) us → sum_by (λ u. length u) us ≡ length us * each
-audio_bytes each [] all = omega arith
-audio_bytes each (u ∷ us) all =
-    let rest = audio_bytes each us all.1 in
-    let first : length u ≡ each = all.0 in
-    omega (arith, sum_by-cons (λ (v : List ℕ). length v) u us)
+use Rattle.gs_tape.specs.Limits.{IsWithinLimits, AreWithinLimits, AreWritable}
+use Rattle.gs_tape.specs.Tick.{unit_bytes}
+use Rattle.gs_tape.proofs.Readings.{delta_bytes}
+use Rattle.gs_tape.proofs.Ticks.{tick_rest, tick-parts, audio_bytes, end}
+use Rattle.gs_tape.proofs.Written.{then_ok, unless_ok, number_read, unit_read, deltas_read, sounds_read}
 
 byte_read : (size x : ℕ) (rest : List ℕ) → x < 256 → number_at size 1 (x ∷ rest) ≡ Ok (x, rest)
 byte_read size x rest fits =
     let same : x + 0 ≡ x = omega arith in
     unless_ok (nat_lt (length (x ∷ rest)) 1) (Malformed 6 size) (Ok (little_number 1 (x ∷ rest), rest)) (le-ltb (length (x ∷ rest)) 1 (omega arith))
     ∙ ap (λ (n : ℕ). Ok (n, rest)) same
-
--- behind the tag
-abbrev tick_rest : Tick → List ℕ → List ℕ
-tick_rest t rest =
-    little_bytes 4 t.time ++ (length t.audio ∷ length t.deltas ∷ (unit t.idr ++ (flat_map delta t.deltas ++ (concat t.audio ++ rest))))
-
-tick-parts : (t : Tick) (rest : List ℕ) → tick t ++ rest ≡ 0x54 ∷ tick_rest t rest
-tick-parts t rest = simp append_assoc
 
 no_sound : (n audio : ℕ) → (audio ≡ 0 → n ≡ 0) → (not (n == 0) && audio == 0) ≡ false
 no_sound n audio silent = elim (cases_eq audio 0) [
@@ -77,9 +63,6 @@ tick_read size audio before t rest is room =
     ∙ ap (λ (n : ℕ). Ok (t, (n, rest))) sums))))))))))
 
 -- ---- all ticks
-
-abbrev end : List ℕ
-end = 0x45 ∷ []
 
 abbrev after : Before → Tick → Before
 after before t = record { number = before.number + 1; time = t.time; held = before.held + unit_bytes t }

@@ -1,5 +1,5 @@
 pub mod Tick
+pub mod Limits
 pub mod Capture
 pub mod Reading
-pub mod Limits
-pub mod RoundTrip
+pub mod Laws

@@ -1,8 +1,28 @@
--- The limits that the ticks of any capture file keep.
-use Rattle.std.specs.Prelude.{ℕ, ◌≡◌, ◌+◌, ◌-◌, ◌^◌, ◌<◌, ◌≤◌, List, [], ◌∷◌, length, Some}
-use Rattle.std.specs.List.{All, slice_get}
-use Rattle.gs_tape.specs.Tick.{Tick, Delta}
-use Rattle.gs_tape.specs.Reading.{most_ticks, most_unit, most_audio, most_count, ticks_of, audio_length}
+-- The limits of a capture file and of its ticks.
+use Rattle.std.specs.Prelude.{ℕ, ◌≡◌, ◌⊎◌, ◌+◌, ◌^◌, ◌<◌, ◌≤◌, List, [], ◌∷◌, length}
+use Rattle.std.specs.List.{All, sum_by}
+use Rattle.gs_tape.specs.declared.limits.TheConstants.{MOST_TICKS, MOST_BYTES, MOST_UNIT, MOST_AUDIO, MOST_COUNT}
+use Rattle.gs_tape.specs.Tick.{Tick, Delta, unit_bytes}
+
+-- ticks of a file
+abbrev pub most_ticks : ℕ
+most_ticks = MOST_TICKS
+
+-- bytes of all units of a file together
+abbrev pub most_bytes : ℕ
+most_bytes = MOST_BYTES
+
+-- bytes of one video unit
+abbrev pub most_unit : ℕ
+most_unit = MOST_UNIT
+
+-- bytes of one audio unit
+abbrev pub most_audio : ℕ
+most_audio = MOST_AUDIO
+
+-- deltas of one tick, and audio units of one tick
+abbrev pub most_count : ℕ
+most_count = MOST_COUNT
 
 -- deltas whose named ticks rise, from above one number to below another, with units in their limit
 abbrev pub AreDeltasBetween : ℕ → ℕ → List Delta → Type 0
@@ -28,22 +48,10 @@ abbrev pub AreWithinLimits : ℕ → ℕ → ℕ → List Tick → Type 0
 AreWithinLimits audio number time [] = Unit {0}
 AreWithinLimits audio number time (t ∷ ts) = IsWithinLimits audio number time t × AreWithinLimits audio (number + 1) t.time ts
 
--- the ticks of any bytes are numbered on from this number, within the limits
-abbrev pub TicksCountFrom : ℕ → Type 0
-TicksCountFrom first = (bytes : List ℕ) → All (λ b. b < 2 ^ 8) bytes → AreWithinLimits (audio_length bytes) first 0 (ticks_of bytes)
-
-abbrev pub AudioLengthKeepsLimit : Type 0
-AudioLengthKeepsLimit = (bytes : List ℕ) → All (λ b. b < 2 ^ 8) bytes → audio_length bytes ≤ most_audio
-
 -- the k-th tick has number k, and keeps the limits
 pub record IsTickWithinLimits (audio k : ℕ) (t : Tick) : Type 0 where
   pub before : ℕ
   pub within : IsWithinLimits audio k before t
-
-abbrev pub EachTickIsWithinLimits : Type 0
-EachTickIsWithinLimits =
-    (bytes : List ℕ) (k : ℕ) (t : Tick) → All (λ b. b < 2 ^ 8) bytes → 1 ≤ k → slice_get (ticks_of bytes) (k - 1) ≡ Some t
-    → IsTickWithinLimits (audio_length bytes) k t
 
 -- each unit of a tick is a list of bytes
 pub record HoldsBytes (t : Tick) : Type 0 where
@@ -51,5 +59,9 @@ pub record HoldsBytes (t : Tick) : Type 0 where
   pub deltas : All (λ d. All (λ b. b < 2 ^ 8) d.unit) t.deltas
   pub audio : All (All (λ b. b < 2 ^ 8)) t.audio
 
-abbrev pub TicksHoldBytes : Type 0
-TicksHoldBytes = (bytes : List ℕ) → All (λ b. b < 2 ^ 8) bytes → All HoldsBytes (ticks_of bytes)
+-- ticks that a file with this head can hold
+pub record AreWritable (audio duration : ℕ) (ticks : List Tick) : Type 0 where
+  pub audio_most : audio ≤ most_audio
+  pub duration_known : (duration ≡ 5) ⊎ (duration ≡ 10)
+  pub within : AreWithinLimits audio 1 0 ticks
+  pub bytes_most : sum_by unit_bytes ticks ≤ most_bytes

@@ -2,32 +2,16 @@
 use Rattle.std.specs.Prelude.{ℕ, zero, suc, ◌+◌, ◌-◌, ◌*◌, Bool, true, false, ◌&&◌, ◌||◌, not, List, [], ◌∷◌, length, take, drop, Option, Some, None, Result, Ok, Err, nat_lt, nat_le, ◌==◌, codes}
 use Rattle.byteorder.specs.Endian.{little_number}
 use Rattle.gs_tape.specs.Tick.{Tick, Delta}
+pub use Rattle.gs_tape.specs.Limits.{most_ticks, most_bytes, most_unit, most_audio, most_count}
 
 -- Why the bytes are no capture file. The place is that of the first byte of the field at fault.
 -- Kinds: 1 the head, 2 a tag, 3 a time below the one before, 4 a count, 5 a named tick,
 -- 6 the end inside a field or where a tag is due, 7 a byte after the end mark.
 pub data Fault : Type 0 where
-  Malformed : ℕ → ℕ → Fault
-  Full : ℕ → Fault
-  UnitTooLarge : ℕ → Fault
-  AudioLength : ℕ → Fault
-
-abbrev pub most_ticks : ℕ
-most_ticks = 1048576
-
--- all units of a file together, in bytes
-abbrev pub most_bytes : ℕ
-most_bytes = 1073741824
-
-abbrev pub most_unit : ℕ
-most_unit = 4000000
-
-abbrev pub most_audio : ℕ
-most_audio = 1400
-
--- deltas of one tick, and audio units of one tick
-abbrev pub most_count : ℕ
-most_count = 16
+  Malformed : (kind place : ℕ) → Fault
+  Full : (tick : ℕ) → Fault
+  UnitTooLarge : (tick : ℕ) → Fault
+  AudioLength : (length : ℕ) → Fault
 
 infixl 10 ◌>>=◌
 abbrev pub ◌>>=◌ : {A B : Type 0} → Result A Fault → (A → Result B Fault) → Result B Fault
@@ -60,38 +44,40 @@ pub record Head : Type 0 where
 
 unfoldable pub head_at : ℕ → List ℕ → Result (Head × List ℕ) Fault
 head_at size bytes = do
-  rest ← text_at size (codes "GSTAPE01") bytes
-  audio ← number_at size 2 rest
-  within ← unless (nat_lt most_audio audio.0) (AudioLength audio.0) (Ok audio.1)
-  duration ← number_at size 1 within
-  known ← unless (not (duration.0 == 5 || duration.0 == 10)) (Malformed 1 (size - length within)) (Ok duration.1)
-  last ← number_at size 1 known
-  unless (not (last.0 == 0)) (Malformed 1 (size - length known)) (Ok (record { audio = audio.0; duration = duration.0 }, last.1))
+  behind_magic ← text_at size (codes "GSTAPE01") bytes
+  (audio, behind_audio) ← number_at size 2 behind_magic
+  known ← unless (nat_lt most_audio audio) (AudioLength audio) (Ok behind_audio)
+  (duration, behind_duration) ← number_at size 1 known
+  timed ← unless (not (duration == 5 || duration == 10)) (Malformed 1 (size - length known)) (Ok behind_duration)
+  (last, behind) ← number_at size 1 timed
+  unless (not (last == 0)) (Malformed 1 (size - length timed)) (Ok (record { audio = audio; duration = duration }, behind))
 
 -- A unit's length, and then its bytes. `held` is the sum of all units of the file so far.
 unfoldable pub unit_at : ℕ → ℕ → ℕ → List ℕ → Result (List ℕ × List ℕ) Fault
 unit_at size number held rest = do
-  n ← number_at size 4 rest
-  fits ← unless (nat_lt most_unit n.0) (UnitTooLarge number) (Ok n.1)
-  room ← unless (nat_lt most_bytes (held + n.0)) (Full number) (Ok fits)
-  bytes_at size n.0 room
+  (long, behind_length) ← number_at size 4 rest
+  fits ← unless (nat_lt most_unit long) (UnitTooLarge number) (Ok behind_length)
+  room ← unless (nat_lt most_bytes (held + long)) (Full number) (Ok fits)
+  bytes_at size long room
 
--- Named ticks rise, from 1 to below the tick's own number.
+-- Deltas of a tick: named ticks rise, from above `before` to below the tick's own number. Behind the
+-- deltas stand the sum of all units with theirs, and what is left.
 unfoldable pub deltas_at : ℕ → ℕ → ℕ → ℕ → ℕ → List ℕ → Result (List Delta × (ℕ × List ℕ)) Fault
 deltas_at zero size number before held rest = Ok ([], (held, rest))
 deltas_at (suc n) size number before held rest = do
-  named ← number_at size 4 rest
-  known ← unless (nat_le named.0 before || nat_le number named.0) (Malformed 5 (size - length rest)) (Ok named.1)
-  unit ← unit_at size number held known
-  others ← deltas_at n size number named.0 (held + length unit.0) unit.1
-  Ok (record { named = named.0; unit = unit.0 } ∷ others.0, others.1)
+  (named, behind_named) ← number_at size 4 rest
+  known ← unless (nat_le named before || nat_le number named) (Malformed 5 (size - length rest)) (Ok behind_named)
+  (unit, behind_unit) ← unit_at size number held known
+  (others, behind) ← deltas_at n size number named (held + length unit) behind_unit
+  Ok (record { named = named; unit = unit } ∷ others, behind)
 
+-- audio units of one length
 unfoldable pub audio_at : ℕ → ℕ → ℕ → List ℕ → Result (List (List ℕ) × List ℕ) Fault
 audio_at zero size length rest = Ok ([], rest)
 audio_at (suc n) size length rest = do
-  unit ← bytes_at size length rest
-  others ← audio_at n size length unit.1
-  Ok (unit.0 ∷ others.0, others.1)
+  (unit, behind_unit) ← bytes_at size length rest
+  (others, behind) ← audio_at n size length behind_unit
+  Ok (unit ∷ others, behind)
 
 -- what is known before a tick: its number, the time of the one before, all units so far
 pub record Before : Type 0 where
@@ -102,17 +88,17 @@ pub record Before : Type 0 where
 -- a tick behind its tag, the sum of all units with its own, and what is left
 unfoldable pub tick_at : ℕ → ℕ → Before → List ℕ → Result (Tick × (ℕ × List ℕ)) Fault
 tick_at size audio before rest = do
-  time ← number_at size 4 rest
-  later ← unless (nat_lt time.0 before.time) (Malformed 3 (size - length rest)) (Ok time.1)
-  sounds ← number_at size 1 later
-  few ← unless (nat_lt most_count sounds.0 || (not (sounds.0 == 0) && audio == 0)) (Malformed 4 (size - length later)) (Ok sounds.1)
-  room ← unless (nat_lt most_bytes (before.held + sounds.0 * audio)) (Full before.number) (Ok few)
-  count ← number_at size 1 room
-  counted ← unless (nat_lt most_count count.0) (Malformed 4 (size - length room)) (Ok count.1)
-  idr ← unit_at size before.number (before.held + sounds.0 * audio) counted
-  deltas ← deltas_at count.0 size before.number 0 (before.held + sounds.0 * audio + length idr.0) idr.1
-  units ← audio_at sounds.0 size audio deltas.1.1
-  Ok (record { number = before.number; time = time.0; idr = idr.0; deltas = deltas.0; audio = units.0 }, (deltas.1.0, units.1))
+  (time, behind_time) ← number_at size 4 rest
+  timed ← unless (nat_lt time before.time) (Malformed 3 (size - length rest)) (Ok behind_time)
+  (sounds, behind_sounds) ← number_at size 1 timed
+  few ← unless (nat_lt most_count sounds || (not (sounds == 0) && audio == 0)) (Malformed 4 (size - length timed)) (Ok behind_sounds)
+  room ← unless (nat_lt most_bytes (before.held + sounds * audio)) (Full before.number) (Ok few)
+  (count, behind_count) ← number_at size 1 room
+  counted ← unless (nat_lt most_count count) (Malformed 4 (size - length room)) (Ok behind_count)
+  (idr, behind_idr) ← unit_at size before.number (before.held + sounds * audio) counted
+  (deltas, (held, behind_deltas)) ← deltas_at count size before.number 0 (before.held + sounds * audio + length idr) behind_idr
+  (units, behind) ← audio_at sounds size audio behind_deltas
+  Ok (record { number = before.number; time = time; idr = idr; deltas = deltas; audio = units }, (held, behind))
 
 -- The ticks that end before the first fault, and that fault where there is one.
 pub record Read : Type 0 where

@@ -8,5 +8,7 @@
 #![tactic(auto)]
 
 mod laws;
+mod limits;
 
-pub use laws::{files_are_read, ticks_keep_limits};
+pub use laws::{faultless_bytes_are_files, files_are_read, ticks_keep_limits};
+pub use limits::{MOST_AUDIO, MOST_BYTES, MOST_COUNT, MOST_TICKS, MOST_UNIT};
