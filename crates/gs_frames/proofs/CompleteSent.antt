@@ -7,20 +7,22 @@ use Rattle.std.proofs.lemmas.List.Elements.{All-weaker}
 use Rattle.std.proofs.lemmas.Option.{slice_get-get_or, slice_get_within, get_or_from_slice_get, same_Some}
 use Rattle.gs_gf256.specs.Field.{IsByte}
 use Rattle.gs_rtp.specs.Stream.{StreamSettings}
+use Rattle.gs_frames.specs.Shards.{payload_of, block_shards}
+use Rattle.gs_frames.specs.Datagrams.{plan_of, headed_blocks, OutgoingFrame, frame_shards}
 use Rattle.gs_frames.specs.Image.{Frame, packets, frame_image, frame_of}
 use Rattle.gs_frames.specs.Plan.{BlockPlan, without_parity}
-use Rattle.gs_frames.specs.Datagrams.{payload_of, block_shards, plan_of}
-use Rattle.gs_frames.specs.Received.{Received, oldest, is_of_frame, is_of_block, counting}
+use Rattle.gs_frames.specs.Received.{Received, oldest, is_of_frame, is_of_block}
+use Rattle.gs_frames.specs.Verdict.{counting}
 use Rattle.gs_frames.specs.Complete.{block_payloads, payloads, image_behind, frame_in}
-use Rattle.gs_frames.specs.FrameLaws.{blocks_received, frame_received, IsSent}
+use Rattle.gs_frames.specs.FrameLaws.{IsSent}
 use Rattle.gs_frames.specs.CompleteLaws.{ComesFrom, CompleteFrameIsSent}
 use Rattle.gs_frames.proofs.Counting.{of_block-frame, complete_by, complete-is}
 use Rattle.gs_frames.proofs.Images.{length-frame_image, image_is_read}
 use Rattle.gs_frames.proofs.Plans.{plan_covers}
 use Rattle.gs_frames.proofs.PlanLimits.{IsWithinGrammar, ArePlans, fec_plan-within}
-use Rattle.gs_frames.proofs.FramesReceived.{packets-within, data_total}
+use Rattle.gs_frames.proofs.FramesReceived.{packets-within, data_total, place_at}
 use Rattle.gs_frames.proofs.ShardForms.{frame_image-bytes}
-use Rattle.gs_frames.proofs.SentBlocks.{count_at, image_at, image_at-next, image_at-room, image_at-bytes, image_at-end, IsShardOf, IsFrom, blocks_from-are, place_at, blocks-are}
+use Rattle.gs_frames.proofs.SentBlocks.{count_at, image_at, image_at-next, image_at-room, image_at-bytes, image_at-end, IsShardOf, IsFrom, blocks_from-are, blocks-are}
 use Rattle.gs_frames.proofs.WholeBlocks.{AreOfSentBlock, block_payloads-sent}
 use Rattle.gs_frames.proofs.Fills.{counting-all}
 use Rattle.gs_frames.proofs.Members.{kept-each, first-each, comes-each, counting-distinct}
@@ -36,9 +38,11 @@ pub record AreBlocksOf (s : StreamSettings) (plans : List BlockPlan) (image : Li
   pub bytes : All IsByte image
 
 -- those of a frame that is sent do
-pub sent-blocks : (s : StreamSettings) (frame kind : ℕ) (unit : List ℕ) → IsSent s frame kind unit
-    → AreBlocksOf s (plan_of s unit) (frame_image kind unit (payload_of s))
-sent-blocks s frame kind unit sent =
+pub sent-blocks : (s : StreamSettings) (out : OutgoingFrame) → IsSent s out
+    → AreBlocksOf s (plan_of s out.unit) (frame_image out.kind out.unit (payload_of s))
+sent-blocks s out sent =
+    let kind = out.kind in
+    let unit = out.unit in
     let payload = payload_of s in
     let limits = sent.limits in
     let packet_least : 1024 ≤ s.packet = limits.packet_least in
@@ -53,9 +57,11 @@ sent-blocks s frame kind unit sent =
     }
 
 -- its image is read
-pub sent-read : (s : StreamSettings) (frame kind : ℕ) (unit : List ℕ) → IsSent s frame kind unit
-    → frame_of (payload_of s) (frame_image kind unit (payload_of s)) ≡ Some (record { kind = kind; unit = unit })
-sent-read s frame kind unit sent =
+pub sent-read : (s : StreamSettings) (out : OutgoingFrame) → IsSent s out
+    → frame_of (payload_of s) (frame_image out.kind out.unit (payload_of s)) ≡ Some (record { kind = out.kind; unit = out.unit })
+sent-read s out sent =
+    let kind = out.kind in
+    let unit = out.unit in
     let limits = sent.limits in
     let packet_least : 1024 ≤ s.packet = limits.packet_least in
     let packet_greatest : s.packet ≤ 1440 = limits.packet_greatest in
@@ -66,7 +72,7 @@ sent-read s frame kind unit sent =
 
 -- what came of a block is of its shards
 pub block-came : (s : StreamSettings) (frame time last count : ℕ) (plans : List BlockPlan) (image : List ℕ) (rs : List Received) (b : ℕ) (plan : BlockPlan)
-    → slice_get plans b ≡ Some plan → ComesFrom (blocks_received s frame time last 0 count plans image) frame rs
+    → slice_get plans b ≡ Some plan → ComesFrom (headed_blocks s (place_at frame time last 0) count plans image) frame rs
     → All (λ r. is_of_block frame b r ≡ true
     → IsShardOf (place_at frame time last b) plan (block_shards s plan (count_at b count plans) (image_at (payload_of s) b plans image)) r) rs
 block-came s frame time last count plans image rs b plan e comes =
@@ -74,17 +80,17 @@ block-came s frame time last count plans image rs b plan e comes =
     let Is : Received → Type 0 = λ r. r.head.block ≡ b → IsShardOf (place_at frame time last b) plan shards r in
     All-weaker (λ r. r.head.frame ≡ frame → Is r) (λ r. is_of_block frame b r ≡ true → IsShardOf (place_at frame time last b) plan shards r)
     (λ r is passes. let of = of_block-frame frame b r passes in is of.0 of.1) rs
-    (comes-each Is (blocks_received s frame time last 0 count plans image) frame rs
+    (comes-each Is (headed_blocks s (place_at frame time last 0) count plans image) frame rs
     (blocks-are s frame time last 0 count plans image b b plan (omega arith) e) comes)
 
 -- what came of a frame says which block is the last
 pub last-came : (s : StreamSettings) (frame time last count : ℕ) (plans : List BlockPlan) (image : List ℕ) (rs : List Received)
-    → ComesFrom (blocks_received s frame time last 0 count plans image) frame rs
+    → ComesFrom (headed_blocks s (place_at frame time last 0) count plans image) frame rs
     → All (λ r. is_of_frame frame r ≡ true → r.head.last_block ≡ last) rs
 last-came s frame time last count plans image rs comes =
     All-weaker (λ r. r.head.frame ≡ frame → IsFrom frame last 0 r) (λ r. is_of_frame frame r ≡ true → r.head.last_block ≡ last)
     (λ r is passes. let h = is (eqb-true r.head.frame frame passes) in h.last_block) rs
-    (comes-each (IsFrom frame last 0) (blocks_received s frame time last 0 count plans image) frame rs
+    (comes-each (IsFrom frame last 0) (headed_blocks s (place_at frame time last 0) count plans image) frame rs
     (blocks_from-are s frame time last 0 count plans image) comes)
 
 -- ---- the image behind it
@@ -134,53 +140,57 @@ block_payloads-of s held None found e = cc
 block_payloads-of s held (Some first) found e = (first, refl)
 
 -- what counts of a block that was sent: its shards, and the first of them
-pub record IsHeldOf (s : StreamSettings) (frame time last count : ℕ) (plans : List BlockPlan) (image : List ℕ) (counted : List Received) (b : ℕ) (plan : BlockPlan) : Type 0 where
+pub record IsHeldOf (s : StreamSettings) (frame time last count : ℕ) (plans : List BlockPlan) (image : List ℕ) (counted : List Received) (b : ℕ)
+    (plan : BlockPlan) : Type 0 where
   pub within : IsWithinGrammar plan
   pub enough : plan.data_shards * payload_of s ≤ length (image_at (payload_of s) b plans image)
   pub bytes : All IsByte (image_at (payload_of s) b plans image)
-  pub held : AreOfSentBlock s (place_at frame time last b) plan (count_at b count plans) (image_at (payload_of s) b plans image) (filter (is_of_block frame b) counted)
+  pub held : AreOfSentBlock s (place_at frame time last b) plan (count_at b count plans) (image_at (payload_of s) b plans image)
+      (filter (is_of_block frame b) counted)
   pub first : (r : Received) → oldest (is_of_block frame b) counted ≡ Some r
       → IsShardOf (place_at frame time last b) plan (block_shards s plan (count_at b count plans) (image_at (payload_of s) b plans image)) r
 
 -- for any block
-pub held-sent : (s : StreamSettings) (frame time last count : ℕ) (plans : List BlockPlan) (image : List ℕ) (rs : List Received) → AreBlocksOf s plans image
-    → ComesFrom (blocks_received s frame time last 0 count plans image) frame rs → (b : ℕ) (plan : BlockPlan) → slice_get plans b ≡ Some plan
-    → IsHeldOf s frame time last count plans image (counting rs) b plan
-held-sent s frame time last count plans image rs h comes b plan e =
+pub held-sent : (s : StreamSettings) (w : ℕ) (frame time last count : ℕ) (plans : List BlockPlan) (image : List ℕ) (rs : List Received)
+    → AreBlocksOf s plans image
+    → ComesFrom (headed_blocks s (place_at frame time last 0) count plans image) frame rs → (b : ℕ) (plan : BlockPlan) → slice_get plans b ≡ Some plan
+    → IsHeldOf s frame time last count plans image (counting w rs) b plan
+held-sent s w frame time last count plans image rs h comes b plan e =
     let here = image_at (payload_of s) b plans image in
     let Is : Received → Type 0 = IsShardOf (place_at frame time last b) plan (block_shards s plan (count_at b count plans) here) in
     let IsOf : Received → Type 0 = λ r. is_of_block frame b r ≡ true → Is r in
-    let each = counting-all IsOf rs (block-came s frame time last count plans image rs b plan e comes) in
+    let each = counting-all w IsOf rs (block-came s frame time last count plans image rs b plan e comes) in
     record {
       within = subst IsWithinGrammar (get_or_from_slice_get plans b plan plan e) (h.planned.each b plan (slice_get_within plans b plan e));
       enough = image_at-room (payload_of s) b plans plan image (omega (arith, h.whole)) e;
       bytes = image_at-bytes (payload_of s) b plans image h.bytes;
-      held = record { each = kept-each (is_of_block frame b) Is (counting rs) each; distinct = counting-distinct frame b rs };
-      first = λ r found. first-each (is_of_block frame b) Is (counting rs) r each found;
+      held = record { each = kept-each (is_of_block frame b) Is (counting w rs) each; distinct = counting-distinct w frame b rs };
+      first = λ r found. first-each (is_of_block frame b) Is (counting w rs) r each found;
     }
 
 -- each of its blocks' payloads are those of the image
-blocks-sent : (s : StreamSettings) (frame time last count : ℕ) (plans : List BlockPlan) (image : List ℕ) (rs : List Received) → AreBlocksOf s plans image
-    → ComesFrom (blocks_received s frame time last 0 count plans image) frame rs → IsBlockOf s frame (counting rs) plans image
-blocks-sent s frame time last count plans image rs h comes b plan found e known =
-    let counted = counting rs in
+blocks-sent : (s : StreamSettings) (w : ℕ) (frame time last count : ℕ) (plans : List BlockPlan) (image : List ℕ) (rs : List Received)
+    → AreBlocksOf s plans image
+    → ComesFrom (headed_blocks s (place_at frame time last 0) count plans image) frame rs → IsBlockOf s frame (counting w rs) plans image
+blocks-sent s w frame time last count plans image rs h comes b plan found e known =
+    let counted = counting w rs in
     let held = filter (is_of_block frame b) counted in
-    let is = held-sent s frame time last count plans image rs h comes b plan e in
+    let is = held-sent s w frame time last count plans image rs h comes b plan e in
     let first = block_payloads-of s held (oldest (is_of_block frame b) counted) found known in
     block_payloads-sent s (place_at frame time last b) plan (count_at b count plans) (image_at (payload_of s) b plans image) held first.0 found h.room
     is.within is.enough is.bytes is.held (is.first first.0 first.1) (ap (block_payloads s held) (sym first.1) ∙ known)
 
 -- the payloads of all blocks are the image
-pub payloads-image : (s : StreamSettings) (frame time last count : ℕ) (plans : List BlockPlan) (image : List ℕ) (rs : List Received) (found : List ℕ)
-    → AreBlocksOf s plans image → ComesFrom (blocks_received s frame time last 0 count plans image) frame rs
-    → payloads s (counting rs) frame (length plans) ≡ Some found → found ≡ image
-payloads-image s frame time last count plans image rs found h comes known =
+pub payloads-image : (s : StreamSettings) (w : ℕ) (frame time last count : ℕ) (plans : List BlockPlan) (image : List ℕ) (rs : List Received) (found : List ℕ)
+    → AreBlocksOf s plans image → ComesFrom (headed_blocks s (place_at frame time last 0) count plans image) frame rs
+    → payloads s (counting w rs) frame (length plans) ≡ Some found → found ≡ image
+payloads-image s w frame time last count plans image rs found h comes known =
     sym (append-nil found) ∙ ap (λ (l : List ℕ). found ++ l) (sym (image_at-end (payload_of s) plans image h.whole))
-    ∙ payloads-sent s frame (counting rs) plans image (length plans) found (omega arith) (blocks-sent s frame time last count plans image rs h comes) known
+    ∙ payloads-sent s frame (counting w rs) plans image (length plans) found (omega arith) (blocks-sent s w frame time last count plans image rs h comes) known
 
 -- the first that came says how many blocks there are
 pub first-says : (s : StreamSettings) (frame time count : ℕ) (plans : List BlockPlan) (image : List ℕ) (rs : List Received) (first : Received)
-    → AreBlocksOf s plans image → ComesFrom (blocks_received s frame time (length plans - 1) 0 count plans image) frame rs
+    → AreBlocksOf s plans image → ComesFrom (headed_blocks s (place_at frame time (length plans - 1) 0) count plans image) frame rs
     → oldest (is_of_frame frame) rs ≡ Some first → first.head.last_block + 1 ≡ length plans
 first-says s frame time count plans image rs first h comes found =
     let last = length plans - 1 in
@@ -190,25 +200,29 @@ first-says s frame time count plans image rs first h comes found =
     omega arith
 
 -- by what came first of it
-sent_behind : (s : StreamSettings) (frame time count : ℕ) (plans : List BlockPlan) (image : List ℕ) (rs : List Received) (held : Frame) (o : Option Received)
-    → AreBlocksOf s plans image → ComesFrom (blocks_received s frame time (length plans - 1) 0 count plans image) frame rs
-    → oldest (is_of_frame frame) rs ≡ o → complete_by s frame (counting rs) o ≡ Some held → frame_of (payload_of s) image ≡ Some held
-sent_behind s frame time count plans image rs held None h comes first e = let none : None ≡ Some held = e in cc
-sent_behind s frame time count plans image rs held (Some o) h comes first e =
-    let found = frame_in-some (payload_of s) (image_behind s (counting rs) frame (Some o)) held e in
+sent_behind : (s : StreamSettings) (w : ℕ) (frame time count : ℕ) (plans : List BlockPlan) (image : List ℕ) (rs : List Received) (held : Frame)
+    (o : Option Received)
+    → AreBlocksOf s plans image → ComesFrom (headed_blocks s (place_at frame time (length plans - 1) 0) count plans image) frame rs
+    → oldest (is_of_frame frame) rs ≡ o → complete_by s frame (counting w rs) o ≡ Some held → frame_of (payload_of s) image ≡ Some held
+sent_behind s w frame time count plans image rs held None h comes first e = let none : None ≡ Some held = e in cc
+sent_behind s w frame time count plans image rs held (Some o) h comes first e =
+    let found = frame_in-some (payload_of s) (image_behind s (counting w rs) frame (Some o)) held e in
     let all = first-says s frame time count plans image rs o h comes first in
-    let known : payloads s (counting rs) frame (length plans) ≡ Some found.0 = ap (payloads s (counting rs) frame) (sym all) ∙ found.1 in
-    let same = payloads-image s frame time (length plans - 1) count plans image rs found.0 h comes known in
+    let known : payloads s (counting w rs) frame (length plans) ≡ Some found.0 = ap (payloads s (counting w rs) frame) (sym all) ∙ found.1 in
+    let same = payloads-image s w frame time (length plans - 1) count plans image rs found.0 h comes known in
     ap (frame_of (payload_of s)) (sym same) ∙ ap (frame_in (payload_of s)) (sym found.1) ∙ e
 
 -- the law
 pub complete_is_sent : CompleteFrameIsSent
-unfolding frame_received
-complete_is_sent s count frame kind time unit rs held sent comes e =
-    let read = sent-read s frame kind unit sent in
-    let image = frame_image kind unit (payload_of s) in
+unfolding frame_shards
+complete_is_sent c out rs held sent comes e =
+    let unit = out.unit in
+    let kind = out.kind in
+    let read = sent-read c.stream out sent in
+    let image = frame_image kind unit (payload_of c.stream) in
     let behind =
-    sent_behind s frame time count (plan_of s unit) image rs held (oldest (is_of_frame frame) rs) (sent-blocks s frame kind unit sent) comes refl
-    (sym (complete-is s rs frame) ∙ e) in
+    sent_behind c.stream c.window out.frame out.time out.count (plan_of c.stream unit) image rs held (oldest (is_of_frame out.frame) rs)
+    (sent-blocks c.stream out sent) comes refl
+    (sym (complete-is c rs out.frame) ∙ e) in
     let same : Some held ≡ Some (record { kind = kind; unit = unit }) = sym behind ∙ read in
     same_Some held (record { kind = kind; unit = unit }) same

@@ -1,41 +1,43 @@
 -- A frame that is complete stays so: a block that is whole takes no other shard.
 use Rattle.std.proofs.Common.{◌≡◌, ◌<◌, ◌+◌, ℕ, zero, suc, true, false, ◌&&◌, not, List, ◌∷◌, ◌++◌, length, Option, Some, None, refl, sym, ap, subst, ◌∙◌, arith, inl, inr}
-use Rattle.std.specs.Prelude.{nat_lt, nat_le, ◌==◌}
+use Rattle.std.specs.Prelude.{nat_lt, ◌==◌}
 use Rattle.std.specs.List.{filter, list_any}
 use Rattle.std.proofs.lemmas.Bool.{cases_Bool, cond-false, and_parts, eqb-true, ltb-true}
 use Rattle.std.proofs.lemmas.Option.{cond_some}
 use Rattle.gs_rtp.specs.Stream.{StreamSettings}
+use Rattle.gs_frames.specs.Shards.{payload_of}
 use Rattle.gs_frames.specs.Image.{Frame}
-use Rattle.gs_frames.specs.Datagrams.{payload_of}
-use Rattle.gs_frames.specs.Received.{Received, greatest, oldest, is_of_frame, is_of_block, same_frame, same_block, counts, counting}
+use Rattle.gs_frames.specs.Received.{Received, is_left, oldest, is_of_frame, is_of_block}
+use Rattle.gs_frames.specs.Verdict.{counting}
 use Rattle.gs_frames.specs.Complete.{block_payloads, both, payloads, image_behind, frame_in}
 use Rattle.gs_frames.specs.CompleteLaws.{CompleteFrameStays}
-use Rattle.gs_frames.proofs.Counting.{oldest-miss, oldest-kept, of_block-frame, counting-not, counting-one, complete_by, complete-is, complete-same, is_shard}
+use Rattle.gs_frames.proofs.Judged.{same_frame, same_block, is_shard, counts}
+use Rattle.gs_frames.proofs.Counting.{oldest-miss, oldest-kept, of_block-frame, counting-not, counting-one, complete_by, complete-is, complete-same}
 
 -- ---- what a test of `counts` gives
 
--- one that counts: no greater frame came, it agrees with its frame and its block, its shard isn't there, and
+-- one that counts: its frame isn't left, it agrees with its frame and its block, its shard isn't there, and
 -- its block has fewer shards than data shards
-pub record AreCountsParts (r : Received) (before counted : List Received) : Type 0 where
-  pub newest : nat_le (greatest before) r.head.frame ≡ true
+pub record AreCountsParts (w : ℕ) (r : Received) (before counted : List Received) : Type 0 where
+  pub not_left : not (is_left w before r.head.frame) ≡ true
   pub frame : same_frame r (oldest (is_of_frame r.head.frame) before) ≡ true
   pub block : same_block r (oldest (is_of_block r.head.frame r.head.block) counted) ≡ true
   pub other : not (list_any (is_shard r.head.frame r.head.block r.head.index) counted) ≡ true
   pub room : nat_lt (length (filter (is_of_block r.head.frame r.head.block) counted)) r.head.shards ≡ true
 
 -- the parts of its test
-pub counts-parts : (r : Received) (before counted : List Received) → counts r before counted ≡ true → AreCountsParts r before counted
-counts-parts r before counted e =
+pub counts-parts : (w : ℕ) (r : Received) (before counted : List Received) → counts w r before counted ≡ true → AreCountsParts w r before counted
+counts-parts w r before counted e =
     let room = nat_lt (length (filter (is_of_block r.head.frame r.head.block) counted)) r.head.shards in
     let other = not (list_any (is_shard r.head.frame r.head.block r.head.index) counted) in
     let block = same_block r (oldest (is_of_block r.head.frame r.head.block) counted) in
     let frame = same_frame r (oldest (is_of_frame r.head.frame) before) in
-    let newest = nat_le (greatest before) r.head.frame in
-    let last = and_parts (newest && frame && block && other) room e in
-    let fourth = and_parts (newest && frame && block) other last.0 in
-    let third = and_parts (newest && frame) block fourth.0 in
-    let second = and_parts newest frame third.0 in
-    record { newest = second.0; frame = second.1; block = third.1; other = fourth.1; room = last.1 }
+    let within = not (is_left w before r.head.frame) in
+    let last = and_parts (within && frame && block && other) room e in
+    let fourth = and_parts (within && frame && block) other last.0 in
+    let third = and_parts (within && frame) block fourth.0 in
+    let second = and_parts within frame third.0 in
+    record { not_left = second.0; frame = second.1; block = third.1; other = fourth.1; room = last.1 }
 
 -- ---- whole blocks
 
@@ -103,14 +105,15 @@ frame_in-some payload None held e = cc
 frame_in-some payload (Some image) held e = (image, refl)
 
 -- by what came first of it
-stays_behind : (s : StreamSettings) (r : Received) (rs : List Received) (f : ℕ) (held : Frame) (o : Option Received) → oldest (is_of_frame f) rs ≡ o
-    → counts r rs (counting rs) ≡ true → complete_by s f (counting rs) o ≡ Some held → complete_by s f (r ∷ counting rs) (oldest (is_of_frame f) (r ∷ rs)) ≡ Some held
-stays_behind s r rs f held None first one e = let none : None ≡ Some held = e in cc
-stays_behind s r rs f held (Some o) first one e =
-    let parts = counts-parts r rs (counting rs) one in
-    let image = frame_in-some (payload_of s) (image_behind s (counting rs) f (Some o)) held e in
-    let kept = payloads-kept s r (counting rs) f (o.head.last_block + 1) image.0 (parts.block, parts.room) image.1 in
-    ap (complete_by s f (r ∷ counting rs)) (oldest-kept (is_of_frame f) r rs o first)
+stays_behind : (s : StreamSettings) (w : ℕ) (r : Received) (rs : List Received) (f : ℕ) (held : Frame) (o : Option Received) → oldest (is_of_frame f) rs ≡ o
+    → counts w r rs (counting w rs) ≡ true → complete_by s f (counting w rs) o ≡ Some held
+    → complete_by s f (r ∷ counting w rs) (oldest (is_of_frame f) (r ∷ rs)) ≡ Some held
+stays_behind s w r rs f held None first one e = let none : None ≡ Some held = e in cc
+stays_behind s w r rs f held (Some o) first one e =
+    let parts = counts-parts w r rs (counting w rs) one in
+    let image = frame_in-some (payload_of s) (image_behind s (counting w rs) f (Some o)) held e in
+    let kept = payloads-kept s r (counting w rs) f (o.head.last_block + 1) image.0 (parts.block, parts.room) image.1 in
+    ap (complete_by s f (r ∷ counting w rs)) (oldest-kept (is_of_frame f) r rs o first)
     ∙ ap (frame_in (payload_of s)) (kept ∙ sym image.1) ∙ e
 
 -- where nothing came first of it, it isn't complete
@@ -121,14 +124,14 @@ first_of-complete s f counted (Some first) held e = (first, refl)
 
 -- the law
 pub complete_stays : CompleteFrameStays
-complete_stays s r rs f held e =
-    let by = sym (complete-is s rs f) ∙ e in
-    elim (cases_Bool (counts r rs (counting rs))) [
+complete_stays c r rs f held e =
+    let by = sym (complete-is c rs f) ∙ e in
+    elim (cases_Bool (counts c.window r rs (counting c.window rs))) [
       | inl one ↦
-          complete-is s (r ∷ rs) f
-          ∙ ap (λ (c : List Received). complete_by s f c (oldest (is_of_frame f) (r ∷ rs))) (counting-one r rs one)
-          ∙ stays_behind s r rs f held (oldest (is_of_frame f) rs) refl one by
+          complete-is c (r ∷ rs) f
+          ∙ ap (λ (cs : List Received). complete_by c.stream f cs (oldest (is_of_frame f) (r ∷ rs))) (counting-one c.window r rs one)
+          ∙ stays_behind c.stream c.window r rs f held (oldest (is_of_frame f) rs) refl one by
       | inr not_one ↦
-          let first = first_of-complete s f (counting rs) (oldest (is_of_frame f) rs) held by in
-          complete-same s (r ∷ rs) rs f (counting-not r rs not_one) (oldest-kept (is_of_frame f) r rs first.0 first.1 ∙ sym first.1) ∙ e
+          let first = first_of-complete c.stream f (counting c.window rs) (oldest (is_of_frame f) rs) held by in
+          complete-same c (r ∷ rs) rs f (counting-not c.window r rs not_one) (oldest-kept (is_of_frame f) r rs first.0 first.1 ∙ sym first.1) ∙ e
     ]

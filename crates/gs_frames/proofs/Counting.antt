@@ -1,12 +1,15 @@
 -- What one more datagram changes in what came first, what counts and what is complete.
-use Rattle.std.proofs.Common.{◌≡◌, ◌<◌, ◌≤◌, ◌+◌, ℕ, zero, suc, Bool, true, false, ◌&&◌, List, [], ◌∷◌, Option, Some, None, refl, sym, ap, ◌∙◌, arith, inl, inr}
+use Rattle.std.proofs.Common.{◌≡◌, ◌<◌, ◌≤◌, ◌+◌, ℕ, zero, suc, Bool, true, false, List, [], ◌∷◌, Option, Some, None, refl, sym, ap, ◌∙◌, arith, inl, inr}
 use Rattle.std.specs.Prelude.{nat_le, ◌==◌, if◌then◌else◌}
 use Rattle.std.specs.List.{filter, list_any}
 use Rattle.std.proofs.lemmas.Bool.{cond-true, cond-false, and_left, and_parts, eqb-true, cases_Bool, ne_eqb}
 use Rattle.std.proofs.lemmas.Bool.Decides.{nat_tests}
 use Rattle.gs_rtp.specs.Stream.{StreamSettings}
-use Rattle.gs_frames.specs.Datagrams.{payload_of}
-use Rattle.gs_frames.specs.Received.{Received, greatest, oldest, is_of_frame, is_of_block, counts, counting}
+use Rattle.gs_frames.specs.Shards.{payload_of}
+use Rattle.gs_frames.specs.Client.{ClientSettings}
+use Rattle.gs_frames.specs.Received.{Received, greatest, oldest, is_of_frame, is_of_block}
+use Rattle.gs_frames.specs.Verdict.{counting}
+use Rattle.gs_frames.proofs.Judged.{is_shard, counts, counting-empty, counting-first}
 use Rattle.gs_frames.specs.Complete.{block_payloads, both, payloads, image_behind, frame_in, complete}
 
 -- ---- the first that came
@@ -30,7 +33,8 @@ pub oldest-miss : (test : Received → Bool) (r : Received) (rs : List Received)
 oldest-miss test r rs e = or_this-miss test r (oldest test rs) e
 
 -- nor does a later one
-pub oldest-kept : (test : Received → Bool) (r : Received) (rs : List Received) (first : Received) → oldest test rs ≡ Some first → oldest test (r ∷ rs) ≡ Some first
+pub oldest-kept : (test : Received → Bool) (r : Received) (rs : List Received) (first : Received) → oldest test rs ≡ Some first
+    → oldest test (r ∷ rs) ≡ Some first
 oldest-kept test r rs first e = ap (or_this test r) e
 
 pub oldest-new : (test : Received → Bool) (r : Received) (rs : List Received) → oldest test rs ≡ None → test r ≡ true → oldest test (r ∷ rs) ≡ Some r
@@ -74,9 +78,6 @@ filter_of_block-none f block (r ∷ rs) h =
     cond-false (is_of_block f block r) (r ∷ filter (is_of_block f block) rs) (filter (is_of_block f block) rs) (is_of_block-miss f block r h.0)
     ∙ filter_of_block-none f block rs h.1
 
-abbrev pub is_shard : ℕ → ℕ → ℕ → Received → Bool
-is_shard f block index c = is_of_block f block c && c.head.index == index
-
 pub any_shard-none : (f block index : ℕ) (rs : List Received) → NoneOf f rs → list_any (is_shard f block index) rs ≡ false
 any_shard-none f block index [] h = refl
 any_shard-none f block index (r ∷ rs) h =
@@ -86,20 +87,17 @@ any_shard-none f block index (r ∷ rs) h =
 
 -- ---- what counts
 
-pub counting-not : (r : Received) (rs : List Received) → counts r rs (counting rs) ≡ false → counting (r ∷ rs) ≡ counting rs
-unfolding counting
-counting-not r rs e = cond-false (counts r rs (counting rs)) (r ∷ counting rs) (counting rs) e
+pub counting-not : (w : ℕ) (r : Received) (rs : List Received) → counts w r rs (counting w rs) ≡ false → counting w (r ∷ rs) ≡ counting w rs
+counting-not w r rs e = counting-first w r rs ∙ cond-false (counts w r rs (counting w rs)) (r ∷ counting w rs) (counting w rs) e
 
-pub counting-one : (r : Received) (rs : List Received) → counts r rs (counting rs) ≡ true → counting (r ∷ rs) ≡ r ∷ counting rs
-unfolding counting
-counting-one r rs e = cond-true (counts r rs (counting rs)) (r ∷ counting rs) (counting rs) e
+pub counting-one : (w : ℕ) (r : Received) (rs : List Received) → counts w r rs (counting w rs) ≡ true → counting w (r ∷ rs) ≡ r ∷ counting w rs
+counting-one w r rs e = counting-first w r rs ∙ cond-true (counts w r rs (counting w rs)) (r ∷ counting w rs) (counting w rs) e
 
-pub NoneOf-counting : (f : ℕ) (rs : List Received) → NoneOf f rs → NoneOf f (counting rs)
-unfolding counting
-NoneOf-counting f [] h = tt
-NoneOf-counting f (r ∷ rs) h = elim (cases_Bool (counts r rs (counting rs))) [
-  | inl one ↦ let P : List Received → Type 0 = NoneOf f in rw (counting-one r rs one) (h.0, NoneOf-counting f rs h.1)
-  | inr not_one ↦ rw (counting-not r rs not_one) (NoneOf-counting f rs h.1)
+pub NoneOf-counting : (w f : ℕ) (rs : List Received) → NoneOf f rs → NoneOf f (counting w rs)
+NoneOf-counting w f [] h = rw counting-empty tt
+NoneOf-counting w f (r ∷ rs) h = elim (cases_Bool (counts w r rs (counting w rs))) [
+  | inl one ↦ let P : List Received → Type 0 = NoneOf f in rw (counting-one w r rs one) (h.0, NoneOf-counting w f rs h.1)
+  | inr not_one ↦ rw (counting-not w r rs not_one) (NoneOf-counting w f rs h.1)
 ]
 
 -- ---- what is complete
@@ -111,7 +109,8 @@ payloads-miss s r counted f (suc n) e =
     let miss = is_of_block-miss f n r e in
     let kept = cond-false (is_of_block f n r) (r ∷ filter (is_of_block f n) counted) (filter (is_of_block f n) counted) miss in
     let first = oldest-miss (is_of_block f n) r counted miss in
-    ap (λ (p : Option (List ℕ)). both p (block_payloads s (filter (is_of_block f n) (r ∷ counted)) (oldest (is_of_block f n) (r ∷ counted)))) (payloads-miss s r counted f n e)
+    ap (λ (p : Option (List ℕ)). both p (block_payloads s (filter (is_of_block f n) (r ∷ counted)) (oldest (is_of_block f n) (r ∷ counted))))
+    (payloads-miss s r counted f n e)
     ∙ ap (λ (held : List Received). both (payloads s counted f n) (block_payloads s held (oldest (is_of_block f n) (r ∷ counted)))) kept
     ∙ ap (λ (o : Option Received). both (payloads s counted f n) (block_payloads s (filter (is_of_block f n) counted) o)) first
 
@@ -124,34 +123,36 @@ image_behind-miss s r counted f (Some first) e = payloads-miss s r counted f (fi
 abbrev pub complete_by : StreamSettings → ℕ → List Received → Option Received → Option Rattle.gs_frames.specs.Image.Frame
 complete_by s f counted first = frame_in (payload_of s) (image_behind s counted f first)
 
-pub complete-is : (s : StreamSettings) (rs : List Received) (f : ℕ) → complete s rs f ≡ complete_by s f (counting rs) (oldest (is_of_frame f) rs)
+pub complete-is : (c : ClientSettings) (rs : List Received) (f : ℕ)
+    → complete c rs f ≡ complete_by c.stream f (counting c.window rs) (oldest (is_of_frame f) rs)
 unfolding complete
-complete-is s rs f = refl
+complete-is c rs f = refl
 
 -- where neither what counts nor what came first of a frame changes, nor does the frame
-pub complete-same : (s : StreamSettings) (rs rs' : List Received) (f : ℕ) → counting rs ≡ counting rs' → oldest (is_of_frame f) rs ≡ oldest (is_of_frame f) rs'
-    → complete s rs f ≡ complete s rs' f
-complete-same s rs rs' f counted first =
-    complete-is s rs f ∙ ap (λ (c : List Received). complete_by s f c (oldest (is_of_frame f) rs)) counted
-    ∙ ap (complete_by s f (counting rs')) first ∙ sym (complete-is s rs' f)
+pub complete-same : (c : ClientSettings) (rs rs' : List Received) (f : ℕ) → counting c.window rs ≡ counting c.window rs'
+    → oldest (is_of_frame f) rs ≡ oldest (is_of_frame f) rs'
+    → complete c rs f ≡ complete c rs' f
+complete-same c rs rs' f counted first =
+    complete-is c rs f ∙ ap (λ (cs : List Received). complete_by c.stream f cs (oldest (is_of_frame f) rs)) counted
+    ∙ ap (complete_by c.stream f (counting c.window rs')) first ∙ sym (complete-is c rs' f)
 
 -- a datagram of another frame doesn't change it
-pub complete-other : (s : StreamSettings) (r : Received) (rs : List Received) (f : ℕ) → is_of_frame f r ≡ false → complete s (r ∷ rs) f ≡ complete s rs f
-complete-other s r rs f e =
+pub complete-other : (c : ClientSettings) (r : Received) (rs : List Received) (f : ℕ) → is_of_frame f r ≡ false → complete c (r ∷ rs) f ≡ complete c rs f
+complete-other c r rs f e =
     let first = oldest-miss (is_of_frame f) r rs e in
-    elim (cases_Bool (counts r rs (counting rs))) [
+    elim (cases_Bool (counts c.window r rs (counting c.window rs))) [
       | inl one ↦
-          complete-is s (r ∷ rs) f
-          ∙ ap (λ (c : List Received). complete_by s f c (oldest (is_of_frame f) (r ∷ rs))) (counting-one r rs one)
-          ∙ ap (complete_by s f (r ∷ counting rs)) first
-          ∙ ap (frame_in (payload_of s)) (image_behind-miss s r (counting rs) f (oldest (is_of_frame f) rs) e)
-          ∙ sym (complete-is s rs f)
-      | inr not_one ↦ complete-same s (r ∷ rs) rs f (counting-not r rs not_one) first
+          complete-is c (r ∷ rs) f
+          ∙ ap (λ (cs : List Received). complete_by c.stream f cs (oldest (is_of_frame f) (r ∷ rs))) (counting-one c.window r rs one)
+          ∙ ap (complete_by c.stream f (r ∷ counting c.window rs)) first
+          ∙ ap (frame_in (payload_of c.stream)) (image_behind-miss c.stream r (counting c.window rs) f (oldest (is_of_frame f) rs) e)
+          ∙ sym (complete-is c rs f)
+      | inr not_one ↦ complete-same c (r ∷ rs) rs f (counting-not c.window r rs not_one) first
     ]
 
 -- a frame of which nothing came isn't complete
-pub complete-none : (s : StreamSettings) (rs : List Received) (f : ℕ) → NoneOf f rs → complete s rs f ≡ None
-complete-none s rs f h = complete-is s rs f ∙ ap (complete_by s f (counting rs)) (oldest_of_frame-none f rs h)
+pub complete-none : (c : ClientSettings) (rs : List Received) (f : ℕ) → NoneOf f rs → complete c rs f ≡ None
+complete-none c rs f h = complete-is c rs f ∙ ap (complete_by c.stream f (counting c.window rs)) (oldest_of_frame-none f rs h)
 
 -- a frame with a block that isn't whole has no image
 both-none : (x : Option (List ℕ)) → both x None ≡ None
@@ -172,21 +173,21 @@ complete_by-none s f counted (Some first) none =
     ap (frame_in (payload_of s)) (payloads-none s counted f (first.head.last_block + 1) (omega arith) none)
 
 -- its own frame isn't changed by a datagram that doesn't count
-complete-own : (s : StreamSettings) (r : Received) (rs : List Received) (f : ℕ) (o : Option Received) → oldest (is_of_frame f) rs ≡ o
-    → counting (r ∷ rs) ≡ counting rs → complete s (r ∷ rs) f ≡ complete s rs f
-complete-own s r rs f (Some first) e same =
-    complete-same s (r ∷ rs) rs f same (oldest-kept (is_of_frame f) r rs first e ∙ sym e)
-complete-own s r rs f None e same =
+complete-own : (c : ClientSettings) (r : Received) (rs : List Received) (f : ℕ) (o : Option Received) → oldest (is_of_frame f) rs ≡ o
+    → counting c.window (r ∷ rs) ≡ counting c.window rs → complete c (r ∷ rs) f ≡ complete c rs f
+complete-own c r rs f (Some first) e same =
+    complete-same c (r ∷ rs) rs f same (oldest-kept (is_of_frame f) r rs first e ∙ sym e)
+complete-own c r rs f None e same =
     let none = NoneOf-from_oldest f rs e in
-    complete-is s (r ∷ rs) f
-    ∙ ap (λ (c : List Received). complete_by s f c (oldest (is_of_frame f) (r ∷ rs))) same
-    ∙ complete_by-none s f (counting rs) (oldest (is_of_frame f) (r ∷ rs)) (NoneOf-counting f rs none)
-    ∙ sym (complete-none s rs f none)
+    complete-is c (r ∷ rs) f
+    ∙ ap (λ (cs : List Received). complete_by c.stream f cs (oldest (is_of_frame f) (r ∷ rs))) same
+    ∙ complete_by-none c.stream f (counting c.window rs) (oldest (is_of_frame f) (r ∷ rs)) (NoneOf-counting c.window f rs none)
+    ∙ sym (complete-none c rs f none)
 
 -- a datagram that doesn't count changes no frame
-pub complete-passed : (s : StreamSettings) (r : Received) (rs : List Received) → counting (r ∷ rs) ≡ counting rs
-    → (f : ℕ) → complete s (r ∷ rs) f ≡ complete s rs f
-complete-passed s r rs same f = complete-own s r rs f (oldest (is_of_frame f) rs) refl same
+pub complete-passed : (c : ClientSettings) (r : Received) (rs : List Received) → counting c.window (r ∷ rs) ≡ counting c.window rs
+    → (f : ℕ) → complete c (r ∷ rs) f ≡ complete c rs f
+complete-passed c r rs same f = complete-own c r rs f (oldest (is_of_frame f) rs) refl same
 
 -- ---- the greatest frame
 
@@ -203,8 +204,8 @@ greatest-new r rs h = grind (arith, nat_tests)
 pub greatest-kept : (r : Received) (rs : List Received) → r.head.frame ≤ greatest rs → greatest (r ∷ rs) ≡ greatest rs
 greatest-kept r rs h = grind (arith, nat_tests)
 
--- a datagram of a frame below the greatest doesn't count
-pub counts-below : (r : Received) (rs : List Received) → r.head.frame < greatest rs → counts r rs (counting rs) ≡ false
-counts-below r rs h =
-    let below : nat_le (greatest rs) r.head.frame ≡ false = grind (arith, nat_tests) in
-    rw below refl
+-- a datagram of a frame that was left doesn't count
+pub counts-left : (w : ℕ) (r : Received) (rs : List Received) → r.head.frame + w ≤ greatest rs → counts w r rs (counting w rs) ≡ false
+counts-left w r rs h =
+    let left : nat_le (r.head.frame + w) (greatest rs) ≡ true = grind (arith, nat_tests) in
+    rw left refl

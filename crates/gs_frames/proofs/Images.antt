@@ -72,7 +72,8 @@ length-frame_image kind unit payload part =
     let room : header_length + length unit ≤ packets (length unit) payload * payload =
     let Fits : ℕ → Type 0 = λ k. header_length + length unit ≤ k * payload in subst Fits (sym n) (omega (arith, p.sum)) in
     let zeros = packets (length unit) payload * payload - (header_length + length unit) in
-    let rest : length (unit ++ replicate zeros 0) ≡ length unit + zeros = length-append unit (replicate zeros 0) ∙ ap (λ (k : ℕ). length unit + k) (length-replicate zeros 0) in
+    let rest : length (unit ++ replicate zeros 0) ≡ length unit + zeros =
+    length-append unit (replicate zeros 0) ∙ ap (λ (k : ℕ). length unit + k) (length-replicate zeros 0) in
     omega (arith, rest, room)
 
 -- ---- what a reader finds
@@ -80,7 +81,10 @@ length-frame_image kind unit payload part =
 pub kind_known : (kind : ℕ) → IsWrittenKind kind → (is_kind kind ≡ true) × (kind_of kind ≡ kind)
 kind_known kind h =
     let Known : ℕ → Type 0 = λ k. (is_kind k ≡ true) × (kind_of k ≡ k) in
-    elim h [ inl one ↦ subst Known (sym one) (refl, refl) | inr others ↦ elim others [ inl two ↦ subst Known (sym two) (refl, refl) | inr five ↦ subst Known (sym five) (refl, refl) ] ]
+    elim h [
+      | inl one ↦ subst Known (sym one) (refl, refl)
+      | inr others ↦ elim others [ inl two ↦ subst Known (sym two) (refl, refl) | inr five ↦ subst Known (sym five) (refl, refl) ]
+    ]
 
 nine_pass : (a b c d e f g h i : Bool) → a ≡ true → b ≡ true → c ≡ true → d ≡ true → e ≡ true → f ≡ true → g ≡ true → h ≡ true → i ≡ true
     → (a && b && c && d && e && f && g && h && i) ≡ true
@@ -144,7 +148,8 @@ IsOrdered-reads {payload} {image} {kind} {n} {last} {unit} {rest} o =
     let unit_is : take (unit_length payload image) (drop header_length image) ≡ unit =
     ap (λ (k : ℕ). take k (drop header_length image)) long ∙ ap (take (length unit)) o.unit_is ∙ take_at unit rest (length unit) refl in
     let kind_is : kind_of (slice_index image 3) ≡ kind = ap kind_of o.kind_is ∙ (kind_known kind o.known).1 in
-    cond-true (is_frame_image payload image) (Some (frame_with (kind_of (slice_index image 3)) (take (unit_length payload image) (drop header_length image)))) None (IsOrdered-tests o)
+    cond-true (is_frame_image payload image)
+    (Some (frame_with (kind_of (slice_index image 3)) (take (unit_length payload image) (drop header_length image)))) None (IsOrdered-tests o)
     ∙ ap (λ (k : ℕ). Some (frame_with k (take (unit_length payload image) (drop header_length image)))) kind_is
     ∙ ap (λ (u : List ℕ). Some (frame_with kind u)) unit_is
 

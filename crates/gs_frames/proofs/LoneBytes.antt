@@ -1,51 +1,50 @@
 -- What is handed and asked for of the bytes that came, where what was taken of them is lone.
-use Rattle.std.proofs.Common.{◌≡◌, ◌<◌, ◌≤◌, ◌+◌, ◌-◌, ℕ, List, [], ◌∷◌, ◌++◌, Option, Some, None, refl, sym, ap, subst, ◌∙◌, arith}
-use Rattle.std.specs.List.{All, cons_option}
+use Rattle.std.proofs.Common.{◌≡◌, ◌<◌, ◌≤◌, ◌+◌, ◌-◌, ℕ, List, [], ◌∷◌, ◌++◌, Some, refl, sym, ap, subst, ◌∙◌, arith}
+use Rattle.std.specs.List.{All}
 use Rattle.std.proofs.lemmas.List.Elements.{All-cons}
 use Rattle.gs_rtp.specs.Stream.{StreamSettings}
-use Rattle.gs_frames.specs.Received.{Received, received, taken, greatest}
-use Rattle.gs_frames.specs.Handed.{Handed, handed_of, handed, Range, range_or_none, asks_of, asks}
+use Rattle.gs_frames.specs.declared.range.Range.{Range}
+use Rattle.gs_frames.specs.Client.{Datagram, datagrams}
+use Rattle.gs_frames.specs.Received.{Received, received, greatest}
+use Rattle.gs_frames.specs.Handed.{Handed}
+use Rattle.gs_frames.specs.Narrow.{narrow, narrow_taken, narrow_handed_of, narrow_handed, range_or_none, narrow_asks_of, narrow_asks}
 use Rattle.gs_frames.specs.Lone.{FitsOnePacket, IsLone, lone_datagram, lone_received}
 use Rattle.gs_frames.specs.LoneLaws.{AreLone, greatest_of, IsNewDatagram, IsPassedDatagram}
+use Rattle.gs_frames.proofs.Taken.{taken-some}
 use Rattle.gs_frames.proofs.LoneHanded.{new_lone_frame, old_lone_frame}
 use Rattle.gs_frames.proofs.OnePacket.{lone_is_received, lone_is_lone}
 
 -- a datagram of the session goes in front of what was taken
-pub taken-some : (s : StreamSettings) (datagram : List ℕ) (came : List (List ℕ)) (r : Received) → received s datagram ≡ Some r
-    → taken s (datagram ∷ came) ≡ r ∷ taken s came
-taken-some s datagram came r e = ap (λ (o : Option Received). cons_option o (taken s came)) e
+taken-one : (s : StreamSettings) (datagram : List ℕ) (came : List (List ℕ)) (r : Received) → received s datagram ≡ Some r
+    → narrow_taken s (datagram ∷ came) ≡ r ∷ narrow_taken s came
+taken-one s datagram came r e = taken-some (narrow s) (Datagram datagram) (datagrams came) r e
 
--- another isn't taken
-pub taken-none : (s : StreamSettings) (datagram : List ℕ) (came : List (List ℕ)) → received s datagram ≡ None
-    → taken s (datagram ∷ came) ≡ taken s came
-taken-none s datagram came e = ap (λ (o : Option Received). cons_option o (taken s came)) e
+pub narrow_handed-is : (s : StreamSettings) (came : List (List ℕ)) → narrow_handed s came ≡ narrow_handed_of s (narrow_taken s came)
+unfolding narrow_handed
+narrow_handed-is s came = refl
 
-pub handed-is : (s : StreamSettings) (came : List (List ℕ)) → handed s came ≡ handed_of s (taken s came)
-unfolding handed
-handed-is s came = refl
-
-pub asks-is : (s : StreamSettings) (came : List (List ℕ)) → asks s came ≡ asks_of s (taken s came)
-unfolding asks
-asks-is s came = refl
+pub narrow_asks-is : (s : StreamSettings) (came : List (List ℕ)) → narrow_asks s came ≡ narrow_asks_of s (narrow_taken s came)
+unfolding narrow_asks
+narrow_asks-is s came = refl
 
 are_lone-more : (s : StreamSettings) (datagram : List ℕ) (came : List (List ℕ)) (r : Received) → received s datagram ≡ Some r → IsLone s r → AreLone s came
     → AreLone s (datagram ∷ came)
 are_lone-more s datagram came r e lone all =
     let Lone : List Received → Type 0 = λ rs. All (IsLone s) rs in
-    subst Lone (sym (taken-some s datagram came r e)) (All-cons (IsLone s) r (taken s came) lone all)
+    subst Lone (sym (taken-one s datagram came r e)) (All-cons (IsLone s) r (narrow_taken s came) lone all)
 
 -- any bytes that are received as a lone datagram
 pub new_datagram : (s : StreamSettings) (datagram : List ℕ) (came : List (List ℕ)) (r : Received) → received s datagram ≡ Some r
     → AreLone s came → (lone : IsLone s r) → greatest_of s came < r.head.frame
     → IsNewDatagram s datagram came r.head.frame lone.unit
 new_datagram s datagram came r e all lone new =
-    let step = new_lone_frame s r (taken s came) all lone new in
-    let more = taken-some s datagram came r e in
+    let step = new_lone_frame s r (narrow_taken s came) all lone new in
+    let more = taken-one s datagram came r e in
     record {
-      handed_after = handed-is s (datagram ∷ came) ∙ ap (handed_of s) more ∙ step.handed_after
-          ∙ ap (λ (hs : List Handed). hs ++ record { frame = r.head.frame; kind = 2; unit = lone.unit } ∷ []) (sym (handed-is s came));
-      asked_after = asks-is s (datagram ∷ came) ∙ ap (asks_of s) more ∙ step.asked_after
-          ∙ ap (λ (l : List Range). l ++ range_or_none (greatest_of s came + 1) (r.head.frame - 1)) (sym (asks-is s came));
+      handed_after = narrow_handed-is s (datagram ∷ came) ∙ ap (narrow_handed_of s) more ∙ step.handed_after
+          ∙ ap (λ (hs : List Handed). hs ++ record { frame = r.head.frame; kind = 2; unit = lone.unit } ∷ []) (sym (narrow_handed-is s came));
+      asked_after = narrow_asks-is s (datagram ∷ came) ∙ ap (narrow_asks_of s) more ∙ step.asked_after
+          ∙ ap (λ (l : List Range). l ++ range_or_none (greatest_of s came + 1) (r.head.frame - 1)) (sym (narrow_asks-is s came));
       greatest_after = ap greatest more ∙ step.greatest_after;
       lone_after = are_lone-more s datagram came r e lone all;
     }
@@ -54,11 +53,11 @@ pub passed_datagram : (s : StreamSettings) (datagram : List ℕ) (came : List (L
     → AreLone s came → IsLone s r → r.head.frame ≤ greatest_of s came
     → IsPassedDatagram s datagram came
 passed_datagram s datagram came r e all lone old =
-    let step = old_lone_frame s r (taken s came) all lone old in
-    let more = taken-some s datagram came r e in
+    let step = old_lone_frame s r (narrow_taken s came) all lone old in
+    let more = taken-one s datagram came r e in
     record {
-      handed_after = handed-is s (datagram ∷ came) ∙ ap (handed_of s) more ∙ step.handed_after ∙ sym (handed-is s came);
-      asked_after = asks-is s (datagram ∷ came) ∙ ap (asks_of s) more ∙ step.asked_after ∙ sym (asks-is s came);
+      handed_after = narrow_handed-is s (datagram ∷ came) ∙ ap (narrow_handed_of s) more ∙ step.handed_after ∙ sym (narrow_handed-is s came);
+      asked_after = narrow_asks-is s (datagram ∷ came) ∙ ap (narrow_asks_of s) more ∙ step.asked_after ∙ sym (narrow_asks-is s came);
       greatest_after = ap greatest more ∙ step.greatest_after;
       lone_after = are_lone-more s datagram came r e lone all;
     }

@@ -7,9 +7,11 @@ use Rattle.std.proofs.lemmas.List.Elements.{All-weaker, All-contains, All-filter
 use Rattle.std.proofs.lemmas.List.Folds.{list_any_at}
 use Rattle.std.proofs.lemmas.List.Kept.{AllPairs-cons}
 use Rattle.std.proofs.lemmas.Option.{same_Some}
-use Rattle.gs_frames.specs.Received.{Received, oldest, is_of_block, counts, counting}
+use Rattle.gs_frames.specs.Received.{Received, oldest, is_of_block}
+use Rattle.gs_frames.specs.Verdict.{counting}
 use Rattle.gs_frames.specs.CompleteLaws.{ComesFrom}
-use Rattle.gs_frames.proofs.Counting.{of_block-frame, counting-not, counting-one, is_shard}
+use Rattle.gs_frames.proofs.Judged.{is_shard, counts, counting-empty}
+use Rattle.gs_frames.proofs.Counting.{of_block-frame, counting-not, counting-one}
 use Rattle.gs_frames.proofs.Fills.{oldest-each}
 use Rattle.gs_frames.proofs.CompleteStays.{counts-parts}
 
@@ -59,24 +61,24 @@ other_number f block r counted passes none =
     counted (fails-each (is_shard f block r.head.index) counted here))
 
 -- a block's shards that count are distinct
-pub counting-distinct : (f block : ℕ) (rs : List Received) → AllPairs (λ r s. r.head.index ≢ s.head.index) (filter (is_of_block f block) (counting rs))
-unfolding counting
-counting-distinct f block [] = λ i j d less h. absurd (omega arith)
-counting-distinct f block (r ∷ rs) =
+pub counting-distinct : (w f block : ℕ) (rs : List Received) → AllPairs (λ r s. r.head.index ≢ s.head.index) (filter (is_of_block f block) (counting w rs))
+counting-distinct w f block [] = rw counting-empty (λ i j d less h. absurd (omega arith))
+counting-distinct w f block (r ∷ rs) =
     let Distinct : List Received → Type 0 = λ l. AllPairs (λ s t. s.head.index ≢ t.head.index) l in
-    let kept = filter (is_of_block f block) (counting rs) in
-    let rest = counting-distinct f block rs in
-    elim (cases_Bool (counts r rs (counting rs))) [
-      | inr not_one ↦ subst (λ (l : List Received). Distinct (filter (is_of_block f block) l)) (sym (counting-not r rs not_one)) rest
+    let kept = filter (is_of_block f block) (counting w rs) in
+    let rest = counting-distinct w f block rs in
+    elim (cases_Bool (counts w r rs (counting w rs))) [
+      | inr not_one ↦ subst (λ (l : List Received). Distinct (filter (is_of_block f block) l)) (sym (counting-not w r rs not_one)) rest
       | inl one ↦
-          subst (λ (l : List Received). Distinct (filter (is_of_block f block) l)) (sym (counting-one r rs one))
+          subst (λ (l : List Received). Distinct (filter (is_of_block f block) l)) (sym (counting-one w r rs one))
           (elim (cases_Bool (is_of_block f block r)) [
             | inr other ↦ subst Distinct (sym (cond-false (is_of_block f block r) (r ∷ kept) kept other)) rest
             | inl passes ↦
-                let parts = counts-parts r rs (counting rs) one in
+                let parts = counts-parts w r rs (counting w rs) one in
                 subst Distinct (sym (cond-true (is_of_block f block r) (r ∷ kept) kept passes))
                 (AllPairs-cons HasOtherNumber r kept
-                (other_number f block r (counting rs) passes (not-true (list_any (is_shard r.head.frame r.head.block r.head.index) (counting rs)) parts.other))
+                (other_number f block r (counting w rs) passes
+                (not-true (list_any (is_shard r.head.frame r.head.block r.head.index) (counting w rs)) parts.other))
                 rest)
           ])
     ]

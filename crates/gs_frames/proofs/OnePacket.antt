@@ -1,5 +1,5 @@
 -- The datagram of a frame that is one packet: it is the only one, and it is received as what it was.
-use Rattle.std.proofs.Common.{◌≡◌, ◌<◌, ◌≤◌, ◌+◌, ◌-◌, ◌*◌, ◌%◌, ◌^◌, ℕ, List, [], ◌∷◌, ◌++◌, length, take, drop, Some, None, refl, ap, ◌∙◌, arith, inl, inr}
+use Rattle.std.proofs.Common.{◌≡◌, ◌<◌, ◌≤◌, ◌+◌, ◌-◌, ◌*◌, ◌%◌, ◌^◌, ℕ, List, [], ◌∷◌, ◌++◌, length, take, drop, map, Some, None, refl, ap, ◌∙◌, arith, inl, inr}
 use Rattle.std.specs.Prelude.{◌==◌}
 use Rattle.std.proofs.lemmas.Bool.{cond-true, eq-eqb}
 use Rattle.std.proofs.lemmas.List.{take_all}
@@ -9,11 +9,13 @@ use Rattle.gs_rtp.specs.Stream.{StreamSettings, AreWithinLimits}
 use Rattle.gs_rtp.specs.declared.video.VideoHead.{VideoHead}
 use Rattle.gs_rtp.specs.Video.{video_header, IsVideoHead, FitsTypes}
 use Rattle.gs_rtp.proofs.VideoReading.{video_head-header}
+use Rattle.gs_frames.specs.Shards.{packet_header, payload_of, data_shard}
+use Rattle.gs_frames.specs.Datagrams.{datagram_of, Place, headed_shard, headed_blocks, plan_of, first_place, frame_shards, frame_datagrams}
 use Rattle.gs_frames.specs.Image.{header_length, packets, frame_image, frame_of}
 use Rattle.gs_frames.specs.Plan.{BlockPlan, fec_plan, without_parity}
-use Rattle.gs_frames.specs.Datagrams.{packet_header, payload_of, data_shard, Place, shard_datagram, blocks_from, plan_of, frame_datagrams}
-use Rattle.gs_frames.specs.Received.{covered, shard_of, of_session, received}
-use Rattle.gs_frames.specs.Lone.{FitsOnePacket, lone_head, lone_datagram, lone_received, IsLone}
+use Rattle.gs_frames.specs.Shards.{covered_header}
+use Rattle.gs_frames.specs.Received.{covered_of, carried_shard, of_session, received}
+use Rattle.gs_frames.specs.Lone.{FitsOnePacket, lone_frame, lone_head, lone_datagram, lone_received, IsLone}
 use Rattle.gs_frames.proofs.Images.{IsParted, ceil_div-parted, length-frame_image, image_is_read}
 
 -- ---- it is one packet
@@ -56,20 +58,22 @@ head_with s count frame time stream_index = record (lone_head s count frame time
 
 -- the datagram of its one shard
 lone_shard_datagram : (s : StreamSettings) (count frame time : ℕ) (bytes : List ℕ)
-    → shard_datagram s (lone_place frame time) (without_parity 1) count 0 (data_shard count 7 bytes) ≡ video_header (lone_head s count frame time) ++ bytes
+    → datagram_of (headed_shard s (lone_place frame time) (without_parity 1) count 0 (data_shard count 7 bytes))
+    ≡ video_header (lone_head s count frame time) ++ bytes
 lone_shard_datagram s count frame time bytes =
     let number : little_number 4 (data_shard count 7 bytes) ≡ count % 2 ^ 24 * 256 =
     little_number-reads_back 4 (count % 2 ^ 24 * 256) (0 ∷ 0 ∷ 0 ∷ 0 ∷ 7 ∷ 0 ∷ 0 ∷ 0 ∷ 0 ∷ 0 ∷ 0 ∷ 0 ∷ bytes) (omega arith) in
     ap (λ (i : ℕ). video_header (head_with s count frame time i) ++ bytes) number
 
 pub one_packet : (s : StreamSettings) (count frame time : ℕ) (unit : List ℕ) → FitsOnePacket s unit
-    → frame_datagrams s count frame 2 time unit ≡ lone_datagram s count frame time unit ∷ []
-unfolding frame_datagrams
+    → frame_datagrams s (lone_frame count frame time unit) ≡ lone_datagram s count frame time unit ∷ []
+unfolding frame_datagrams frame_shards
 one_packet s count frame time unit fits =
     let image = frame_image 2 unit (payload_of s) in
     let whole : take (payload_of s) image ≡ image = take_all (payload_of s) image (omega (arith, length-lone_image s 2 unit fits)) in
-    ap (λ (plan : List BlockPlan). blocks_from s frame time (length plan - 1) 0 count plan image) (lone_plan s unit fits)
-    ∙ ap (λ (bytes : List ℕ). shard_datagram s (lone_place frame time) (without_parity 1) count 0 (data_shard count 7 bytes) ∷ []) whole
+    ap (λ (plans : List BlockPlan). map datagram_of (headed_blocks s (first_place (lone_frame count frame time unit) plans) count plans image))
+    (lone_plan s unit fits)
+    ∙ ap (λ (bytes : List ℕ). datagram_of (headed_shard s (lone_place frame time) (without_parity 1) count 0 (data_shard count 7 bytes)) ∷ []) whole
     ∙ ap (λ (d : List ℕ). d ∷ []) (lone_shard_datagram s count frame time image)
 
 -- ---- it is received
@@ -127,10 +131,11 @@ lone_is_received s count frame time unit fits least greatest =
     (omega (arith, length-lone_image s 2 unit fits)))
     ∙ cond-true (s.ssrc == s.ssrc) (Some (lone_received s count frame time unit)) None (eq-eqb s.ssrc s.ssrc refl)
 
-payload_of_shard : (packet : ℕ) (h : VideoHead) (bytes : List ℕ) → length bytes + 16 ≡ packet → drop packet_header (shard_of packet (video_header h ++ bytes)) ≡ bytes
+payload_of_shard : (packet : ℕ) (h : VideoHead) (bytes : List ℕ) → length bytes + 16 ≡ packet
+    → drop packet_header (carried_shard packet h (video_header h ++ bytes)) ≡ bytes
 payload_of_shard packet h bytes len =
-    let front : length (video_header h ++ bytes) - packet ≡ 16 = omega (arith, length-video_header h bytes) in
-    ap (λ (n : ℕ). drop packet_header (covered (drop n (video_header h ++ bytes)))) front
+    let front : length (video_header h ++ bytes) - (packet - 16) ≡ 32 = omega (arith, length-video_header h bytes) in
+    ap (λ (n : ℕ). drop packet_header (covered_header (covered_of h) ++ drop n (video_header h ++ bytes))) front
 
 pub lone_is_lone : (s : StreamSettings) (count frame time : ℕ) (unit : List ℕ) → FitsOnePacket s unit → 1 ≤ frame
     → (lone : IsLone s (lone_received s count frame time unit)) × (lone.unit ≡ unit)
@@ -148,7 +153,8 @@ lone_is_lone s count frame time unit fits least =
         index = refl;
         percentage = refl;
         unit = unit;
-        image = ap (frame_of (payload_of s)) (payload_of_shard s.packet (lone_head s count frame time) image (omega (arith, length-lone_image s 2 unit fits))) ∙ read;
+        image = ap (frame_of (payload_of s)) (payload_of_shard s.packet (lone_head s count frame time) image (omega (arith, length-lone_image s 2 unit fits)))
+            ∙ read;
       },
       refl,
     )

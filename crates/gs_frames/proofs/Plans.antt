@@ -25,10 +25,14 @@ pub data_shards-are : (n percentage minimum : ℕ) → map (λ b. b.data_shards)
 unfolding fec_plan
 data_shards-are n percentage minimum = elim (cases_Bool (has_parity n percentage)) [
   | inl parity ↦
-      ap (map (λ b. b.data_shards)) (cond-true (has_parity n percentage) (map (with_parity percentage minimum) (parts n (block_count n percentage))) (map without_parity (parts n (block_count n percentage))) parity)
+      ap (map (λ b. b.data_shards))
+      (cond-true (has_parity n percentage) (map (with_parity percentage minimum) (parts n (block_count n percentage)))
+      (map without_parity (parts n (block_count n percentage))) parity)
       ∙ data_of-with_parity percentage minimum (parts n (block_count n percentage))
   | inr bare ↦
-      ap (map (λ b. b.data_shards)) (cond-false (has_parity n percentage) (map (with_parity percentage minimum) (parts n (block_count n percentage))) (map without_parity (parts n (block_count n percentage))) bare)
+      ap (map (λ b. b.data_shards))
+      (cond-false (has_parity n percentage) (map (with_parity percentage minimum) (parts n (block_count n percentage)))
+      (map without_parity (parts n (block_count n percentage))) bare)
       ∙ data_of-without_parity (parts n (block_count n percentage))
 ]
 
@@ -65,7 +69,8 @@ plan_covers n percentage minimum some few within =
     ∙ elim (cases_Bool (has_parity n percentage)) [
       | inl parity ↦
           ap (λ (b : ℕ). sum (parts n b)) (cond-true (has_parity n percentage) (ceil_div n (most_shards percentage)) (ceil_div n most_bare) parity)
-          ∙ parts_of-sum n (most_shards percentage) some large (leb-true _ _ (and_parts (nat_lt 0 percentage) (nat_le (ceil_div n (most_shards percentage)) most_blocks) parity).1)
+          ∙ parts_of-sum n (most_shards percentage) some large
+          (leb-true _ _ (and_parts (nat_lt 0 percentage) (nat_le (ceil_div n (most_shards percentage)) most_blocks) parity).1)
       | inr bare ↦
           ap (λ (b : ℕ). sum (parts n b)) (cond-false (has_parity n percentage) (ceil_div n (most_shards percentage)) (ceil_div n most_bare) bare)
           ∙ parts_of-sum n most_bare some (omega arith) (few_bare n some few)

@@ -1,15 +1,16 @@
 -- Where the blocks of a frame stand in its image, and what is received of each.
-use Rattle.std.proofs.Common.{◌≡◌, ◌≤◌, ◌+◌, ◌*◌, ℕ, zero, suc, List, [], ◌∷◌, length, drop, Some, refl, ap, subst, ◌∙◌, arith}
+use Rattle.std.proofs.Common.{◌≡◌, ◌≤◌, ◌+◌, ◌-◌, ◌*◌, ℕ, zero, suc, List, [], ◌∷◌, length, drop, Some, refl, ap, subst, ◌∙◌, arith}
 use Rattle.std.specs.List.{All, slice_get}
 use Rattle.std.proofs.lemmas.List.{length-drop}
 use Rattle.std.proofs.lemmas.List.Elements.{All-nil, All-cons, All-append, All-drop, All-weaker}
 use Rattle.gs_gf256.specs.Field.{IsByte}
 use Rattle.gs_rtp.specs.Stream.{StreamSettings}
+use Rattle.gs_frames.specs.Shards.{payload_of, block_shards}
+use Rattle.gs_frames.specs.Datagrams.{Place, headed_shard, headed_shards, headed_blocks, plan_of, OutgoingFrame, frame_shards}
+use Rattle.gs_frames.specs.Image.{frame_image}
 use Rattle.gs_frames.specs.Plan.{BlockPlan}
-use Rattle.gs_frames.specs.Datagrams.{payload_of, Place, block_shards}
 use Rattle.gs_frames.specs.Received.{Received}
-use Rattle.gs_frames.specs.FrameLaws.{shard_received, shards_received, blocks_received}
-use Rattle.gs_frames.proofs.FramesReceived.{data_total, data_total-cons}
+use Rattle.gs_frames.proofs.FramesReceived.{data_total, data_total-cons, place_at}
 
 -- ---- where a block stands
 
@@ -93,11 +94,11 @@ record IsShardFrom (place : Place) (plan : BlockPlan) (index : ℕ) (shards : Li
 
 -- each shard of a block, from an index on
 shards_from-are : (s : StreamSettings) (place : Place) (plan : BlockPlan) (count index : ℕ) (shards : List (List ℕ))
-    → All (IsShardFrom place plan index shards) (shards_received s place plan count index shards)
+    → All (IsShardFrom place plan index shards) (headed_shards s place plan count index shards)
 shards_from-are s place plan count index [] = All-nil (IsShardFrom place plan index [])
 shards_from-are s place plan count index (shard ∷ shards) =
-    All-cons (IsShardFrom place plan index (shard ∷ shards)) (shard_received s place plan count index shard)
-    (shards_received s place plan (count + 1) (index + 1) shards)
+    All-cons (IsShardFrom place plan index (shard ∷ shards)) (headed_shard s place plan count index shard)
+    (headed_shards s place plan (count + 1) (index + 1) shards)
     (record {
       head = record { frame = refl; block = refl; last_block = refl; shards = refl; percentage = refl };
       number = 0;
@@ -106,17 +107,17 @@ shards_from-are s place plan count index (shard ∷ shards) =
     })
     (All-weaker (IsShardFrom place plan (index + 1) shards) (IsShardFrom place plan index (shard ∷ shards))
     (λ r h. record { head = h.head; number = suc h.number; number_is = omega (arith, h.number_is); shard = h.shard })
-    (shards_received s place plan (count + 1) (index + 1) shards) (shards_from-are s place plan (count + 1) (index + 1) shards))
+    (headed_shards s place plan (count + 1) (index + 1) shards) (shards_from-are s place plan (count + 1) (index + 1) shards))
 
 -- each shard of a block
 pub shards-are : (s : StreamSettings) (place : Place) (plan : BlockPlan) (count : ℕ) (shards : List (List ℕ))
-    → All (IsShardOf place plan shards) (shards_received s place plan count 0 shards)
+    → All (IsShardOf place plan shards) (headed_shards s place plan count 0 shards)
 shards-are s place plan count shards =
     All-weaker (IsShardFrom place plan 0 shards) (IsShardOf place plan shards)
     (λ r h.
     let number : r.head.index ≡ h.number = omega (arith, h.number_is) in
     record { head = h.head; shard = ap (slice_get shards) number ∙ h.shard })
-    (shards_received s place plan count 0 shards) (shards_from-are s place plan count 0 shards)
+    (headed_shards s place plan count 0 shards) (shards_from-are s place plan count 0 shards)
 
 -- ---- what is received of a frame
 
@@ -128,15 +129,15 @@ pub record IsFrom (of last begin : ℕ) (r : Received) : Type 0 where
 
 -- of any blocks
 pub blocks_from-are : (s : StreamSettings) (frame time last block count : ℕ) (plans : List BlockPlan) (image : List ℕ)
-    → All (IsFrom frame last block) (blocks_received s frame time last block count plans image)
+    → All (IsFrom frame last block) (headed_blocks s (place_at frame time last block) count plans image)
 blocks_from-are s frame time last block count [] image = All-nil (IsFrom frame last block)
 blocks_from-are s frame time last block count (plan ∷ plans) image =
     let place : Place = record { frame = frame; time = time; block = block; last_block = last } in
     let shards = block_shards s plan count image in
-    let first = shards_received s place plan count 0 shards in
+    let first = headed_shards s place plan count 0 shards in
     let more = count + plan.data_shards + plan.parity_shards in
     let left = drop (plan.data_shards * payload_of s) image in
-    let rest = blocks_received s frame time last (block + 1) more plans left in
+    let rest = headed_blocks s (place_at frame time last (block + 1)) more plans left in
     All-append (IsFrom frame last block) first rest
     (All-weaker (IsShardOf place plan shards) (IsFrom frame last block)
     (λ r h. record { frame = h.head.frame; last_block = h.head.last_block; block = omega (arith, h.head.block) })
@@ -144,10 +145,6 @@ blocks_from-are s frame time last block count (plan ∷ plans) image =
     (All-weaker (IsFrom frame last (block + 1)) (IsFrom frame last block)
     (λ r h. record { frame = h.frame; last_block = h.last_block; block = omega (arith, h.block) })
     rest (blocks_from-are s frame time last (block + 1) more plans left))
-
--- the block at a place
-abbrev pub place_at : ℕ → ℕ → ℕ → ℕ → Place
-place_at frame time last at = record { frame = frame; time = time; block = at; last_block = last }
 
 -- what is of it is one of its shards
 abbrev IsShardAt : StreamSettings → ℕ → ℕ → ℕ → ℕ → ℕ → BlockPlan → List ℕ → Received → Type 0
@@ -158,16 +155,16 @@ IsShardAt s frame time last at count plan image r =
 pub blocks-are : (s : StreamSettings) (frame time last block count : ℕ) (plans : List BlockPlan) (image : List ℕ) (at b : ℕ) (plan : BlockPlan)
     → at ≡ block + b → slice_get plans b ≡ Some plan
     → All (IsShardAt s frame time last at (count_at b count plans) plan (image_at (payload_of s) b plans image))
-    (blocks_received s frame time last block count plans image)
+    (headed_blocks s (place_at frame time last block) count plans image)
 blocks-are s frame time last block count [] image at b plan here e = cc
 blocks-are s frame time last block count (first ∷ plans) image at zero plan here e =
     let same : first ≡ plan = cc in
     let place = place_at frame time last block in
     let shards = block_shards s first count image in
-    let these = shards_received s place first count 0 shards in
+    let these = headed_shards s place first count 0 shards in
     let more = count + first.data_shards + first.parity_shards in
     let left = drop (first.data_shards * payload_of s) image in
-    let rest = blocks_received s frame time last (block + 1) more plans left in
+    let rest = headed_blocks s (place_at frame time last (block + 1)) more plans left in
     let begin : block ≡ at = omega arith in
     let OfPlan : BlockPlan → Type 0 = λ p. All (IsShardAt s frame time last block count p image) these in
     let OfBlock : ℕ → Type 0 = λ a. All (IsShardAt s frame time last a count plan image) these in
@@ -180,12 +177,23 @@ blocks-are s frame time last block count (first ∷ plans) image at zero plan he
 blocks-are s frame time last block count (first ∷ plans) image at (suc b) plan here e =
     let place = place_at frame time last block in
     let shards = block_shards s first count image in
-    let these = shards_received s place first count 0 shards in
+    let these = headed_shards s place first count 0 shards in
     let more = count + first.data_shards + first.parity_shards in
     let left = drop (first.data_shards * payload_of s) image in
-    let rest = blocks_received s frame time last (block + 1) more plans left in
+    let rest = headed_blocks s (place_at frame time last (block + 1)) more plans left in
     let P = IsShardAt s frame time last at (count_at b more plans) plan (image_at (payload_of s) b plans left) in
     All-append P these rest
     (All-weaker (IsShardOf place first shards) P (λ r h at_it. absurd (omega (arith, h.head.block)))
     these (shards-are s place first count shards))
     (blocks-are s frame time last (block + 1) more plans left at b plan (omega arith) e)
+
+-- the shards of a frame are of that frame
+pub frame_shards-frame : (s : StreamSettings) (out : OutgoingFrame) → All (λ r. r.head.frame ≡ out.frame) (frame_shards s out)
+unfolding frame_shards
+frame_shards-frame s out =
+    let plans = plan_of s out.unit in
+    let last = length plans - 1 in
+    let image = frame_image out.kind out.unit (payload_of s) in
+    All-weaker (IsFrom out.frame last 0) (λ r. r.head.frame ≡ out.frame) (λ r h. h.frame)
+    (headed_blocks s (place_at out.frame out.time last 0) out.count plans image)
+    (blocks_from-are s out.frame out.time last 0 out.count plans image)

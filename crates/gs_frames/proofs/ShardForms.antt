@@ -9,15 +9,16 @@ use Rattle.std.proofs.lemmas.List.FromFn.{length-map-range_with_len}
 use Rattle.gs_gf256.specs.Field.{IsByte, product}
 use Rattle.gs_gf256.proofs.FieldLemmas.{product-zero_r}
 use Rattle.gs_gf256.proofs.FieldSums.{field_sum_none}
-use Rattle.gs_rs.specs.declared.shape.Shape.{Shape}
+use Rattle.gs_rs.specs.declared.shape.CodeShape.{CodeShape}
 use Rattle.gs_rs.specs.Shape.{video_code, coefficient}
 use Rattle.gs_rtp.specs.Stream.{StreamSettings}
+use Rattle.gs_rs.specs.Shards.{parity_shard, shard_byte}
+use Rattle.gs_frames.specs.Shards.{payload_of, shares, flags, data_shard, data_shards_from, block_shards}
 use Rattle.gs_frames.specs.Image.{frame_image, last_length}
 use Rattle.gs_frames.specs.ImageLaws.{IsWrittenKind}
 use Rattle.gs_frames.specs.Plan.{BlockPlan}
-use Rattle.gs_frames.specs.Datagrams.{payload_of, shares, flags, data_shard, data_shards_from, shard_byte, parity_shard, block_shards}
-use Rattle.gs_frames.specs.RestoreLaws.{AreDataShards}
-use Rattle.gs_frames.proofs.Restored.{parity_shards, parity_byte, IsByte-parity_byte}
+use Rattle.gs_rs.specs.ShardLaws.{AreDataShards}
+use Rattle.gs_rs.proofs.HeldShards.{parity_shards, parity_byte, IsByte-parity_byte}
 use Rattle.gs_frames.proofs.ShardsReceived.{shard_with, IsShard}
 
 -- ---- the bytes of an image
@@ -159,7 +160,7 @@ shard_byte-zero (shard ∷ shards) zero k all = All-head (λ s. get_or s k 0 ≡
 shard_byte-zero (shard ∷ shards) (suc i) k all = shard_byte-zero shards i k (All-tail (λ s. get_or s k 0 ≡ 0) shard shards all)
 
 -- where all data shards have 0, a parity shard has 0
-parity_byte-zero : (code : Shape) (shards : List (List ℕ)) (row k : ℕ) → All (λ shard. get_or shard k 0 ≡ 0) shards → parity_byte code shards row k ≡ 0
+parity_byte-zero : (code : CodeShape) (shards : List (List ℕ)) (row k : ℕ) → All (λ shard. get_or shard k 0 ≡ 0) shards → parity_byte code shards row k ≡ 0
 parity_byte-zero code shards row k all =
     field_sum_none (λ i. product (coefficient code row i) (shard_byte shards i k)) code.data
     (λ i h. ap (product (coefficient code row i)) (shard_byte-zero shards i k all) ∙ product-zero_r (coefficient code row i))
@@ -173,7 +174,7 @@ abbrev sixteen_more : ℕ → ℕ
 sixteen_more m = suc (suc (suc (suc (suc (suc (suc (suc (suc (suc (suc (suc (suc (suc (suc (suc m)))))))))))))))
 
 -- a parity shard is a shard
-pub parity_is_shard : (code : Shape) (size : ℕ) (shards : List (List ℕ)) (row : ℕ) → 16 ≤ size → AreDataShards code size shards → All (IsShard size) shards
+pub parity_is_shard : (code : CodeShape) (size : ℕ) (shards : List (List ℕ)) (row : ℕ) → 16 ≤ size → AreDataShards code size shards → All (IsShard size) shards
     → IsShard size (parity_shard code size shards row)
 parity_is_shard code size shards row room data_shards are =
     let g : ℕ → ℕ = parity_byte code shards row in

@@ -9,12 +9,12 @@ use Rattle.gs_rtp.specs.Stream.{StreamSettings}
 use Rattle.gs_rtp.specs.declared.video.VideoHead.{VideoHead}
 use Rattle.gs_rtp.specs.Video.{video_header, IsVideoHead, FitsTypes}
 use Rattle.gs_rtp.proofs.VideoReading.{video_head-header}
+use Rattle.gs_frames.specs.Datagrams.{Place, shard_head, headed_shard, datagram_of}
 use Rattle.gs_frames.specs.Plan.{BlockPlan}
-use Rattle.gs_frames.specs.Datagrams.{Place, shard_head, shard_datagram}
-use Rattle.gs_frames.specs.Received.{covered, shard_of, of_session, received}
+use Rattle.gs_frames.specs.Shards.{covered_header}
+use Rattle.gs_frames.specs.Received.{covered_of, carried_shard, of_session, received}
 use Rattle.gs_frames.proofs.OnePacket.{length-video_header}
 use Rattle.gs_frames.proofs.PlanLimits.{IsWithinGrammar, shards-lt}
-use Rattle.gs_frames.specs.FrameLaws.{shard_received}
 
 -- a shard by the fields that parity covers, and its payload
 abbrev pub shard_with : ℕ → ℕ → ℕ → ℕ → ℕ → ℕ → List ℕ → List ℕ
@@ -54,13 +54,12 @@ number_again a b c d rest ha hb hc hd =
 number-lt : (a b c d : ℕ) (rest : List ℕ) → IsByte a → IsByte b → IsByte c → IsByte d → little_number 4 (a ∷ b ∷ c ∷ d ∷ rest) < 2 ^ 32
 number-lt a b c d rest ha hb hc hd = omega arith
 
--- the last bytes of a datagram, with the fields 0 that parity doesn't cover
-covered-is : (packet : ℕ) (h : VideoHead) (payload : List ℕ) → 16 + length payload ≡ packet
-    → shard_of packet (video_header h ++ payload)
-    ≡ little_bytes 4 h.stream_index ++ 0 ∷ 0 ∷ 0 ∷ 0 ∷ h.flags ∷ h.extra ∷ 0 ∷ 0 ∷ 0 ∷ 0 ∷ 0 ∷ 0 ∷ payload
-covered-is packet h payload whole =
-    let front : length (video_header h ++ payload) - packet ≡ 16 = omega (arith, length-video_header h payload) in
-    ap (λ (n : ℕ). covered (drop n (video_header h ++ payload))) front
+-- the shard that a datagram carries
+pub carried-is : (packet : ℕ) (h : VideoHead) (payload : List ℕ) → 16 + length payload ≡ packet
+    → carried_shard packet h (video_header h ++ payload) ≡ covered_header (covered_of h) ++ payload
+carried-is packet h payload whole =
+    let front : length (video_header h ++ payload) - (packet - 16) ≡ 32 = omega (arith, length-video_header h payload) in
+    ap (λ (n : ℕ). covered_header (covered_of h) ++ drop n (video_header h ++ payload)) front
 
 -- which block of which frame a head may say
 pub record IsPlace (place : Place) : Type 0 where
@@ -85,7 +84,8 @@ head-grammar s plan place count index shard h p within = record {
 
 -- and its fields fit their types
 head-fits : (s : StreamSettings) (plan : BlockPlan) (place : Place) (count index : ℕ) (a b c d flags extra : ℕ) (payload : List ℕ) → s.ssrc < 2 ^ 32
-    → IsPlace place → IsWithinGrammar plan → index < plan.data_shards + plan.parity_shards → IsByte a → IsByte b → IsByte c → IsByte d → IsByte flags → IsByte extra
+    → IsPlace place → IsWithinGrammar plan → index < plan.data_shards + plan.parity_shards → IsByte a → IsByte b → IsByte c → IsByte d → IsByte flags
+    → IsByte extra
     → FitsTypes (shard_head s place plan count index (shard_with a b c d flags extra payload))
 head-fits s plan place count index a b c d flags extra payload ssrc h p within ha hb hc hd hf he =
     let frame : place.frame ≤ 1048576 = h.frame_greatest in
@@ -110,9 +110,10 @@ head-fits s plan place count index a b c d flags extra payload ssrc h p within h
 
 -- the datagram of a shard by its fields
 fields_received : (s : StreamSettings) (plan : BlockPlan) (place : Place) (count index : ℕ) (a b c d flags extra : ℕ) (payload : List ℕ) → s.ssrc < 2 ^ 32
-    → IsPlace place → IsWithinGrammar plan → index < plan.data_shards + plan.parity_shards → IsByte a → IsByte b → IsByte c → IsByte d → IsByte flags → IsByte extra → 16 + length payload ≡ s.packet
-    → received s (shard_datagram s place plan count index (shard_with a b c d flags extra payload))
-    ≡ Some (shard_received s place plan count index (shard_with a b c d flags extra payload))
+    → IsPlace place → IsWithinGrammar plan → index < plan.data_shards + plan.parity_shards → IsByte a → IsByte b → IsByte c → IsByte d → IsByte flags
+    → IsByte extra → 16 + length payload ≡ s.packet
+    → received s (datagram_of (headed_shard s place plan count index (shard_with a b c d flags extra payload)))
+    ≡ Some (headed_shard s place plan count index (shard_with a b c d flags extra payload))
 unfolding received
 fields_received s plan place count index a b c d flags extra payload ssrc h p within ha hb hc hd hf he whole =
     let shard = shard_with a b c d flags extra payload in
@@ -122,18 +123,19 @@ fields_received s plan place count index a b c d flags extra payload ssrc h p wi
     ap (of_session s datagram)
     (video_head-header s.packet head payload (head-fits s plan place count index a b c d flags extra payload ssrc h p within ha hb hc hd hf he)
     (head-grammar s plan place count index shard h p within) (omega arith))
-    ∙ cond-true (s.ssrc == s.ssrc) (Some (record { head = head; shard = shard_of s.packet datagram })) None (eq-eqb s.ssrc s.ssrc refl)
+    ∙ cond-true (s.ssrc == s.ssrc) (Some (record { head = head; shard = carried_shard s.packet head datagram })) None (eq-eqb s.ssrc s.ssrc refl)
     ∙ ap (λ (bytes : List ℕ). Some (record { head = head; shard = bytes }))
-    (covered-is s.packet head payload whole
+    (carried-is s.packet head payload whole
     ∙ ap (λ (number : List ℕ). number ++ rest) (number_again a b c d rest ha hb hc hd))
 
 -- any shard's datagram
 pub shard_is_received : (s : StreamSettings) (plan : BlockPlan) (place : Place) (count index : ℕ) (shard : List ℕ) → s.ssrc < 2 ^ 32
     → IsPlace place → IsWithinGrammar plan → index < plan.data_shards + plan.parity_shards → IsShard s.packet shard
-    → received s (shard_datagram s place plan count index shard) ≡ Some (shard_received s place plan count index shard)
+    → received s (datagram_of (headed_shard s place plan count index shard)) ≡ Some (headed_shard s place plan count index shard)
 shard_is_received s plan place count index shard ssrc h p within is_shard =
     let IsReceivedSame : List ℕ → Type 0 =
-    λ bytes. received s (shard_datagram s place plan count index bytes) ≡ Some (shard_received s place plan count index bytes) in
+    λ bytes. received s (datagram_of (headed_shard s place plan count index bytes)) ≡ Some (headed_shard s place plan count index bytes) in
     subst IsReceivedSame (sym is_shard.is)
-    (fields_received s plan place count index is_shard.first is_shard.second is_shard.third is_shard.fourth is_shard.flags is_shard.extra is_shard.payload ssrc h p within
-    is_shard.IsByte-first is_shard.IsByte-second is_shard.IsByte-third is_shard.IsByte-fourth is_shard.IsByte-flags is_shard.IsByte-extra is_shard.whole)
+    (fields_received s plan place count index is_shard.first is_shard.second is_shard.third is_shard.fourth is_shard.flags is_shard.extra is_shard.payload
+    ssrc h p within is_shard.IsByte-first is_shard.IsByte-second is_shard.IsByte-third is_shard.IsByte-fourth is_shard.IsByte-flags
+    is_shard.IsByte-extra is_shard.whole)

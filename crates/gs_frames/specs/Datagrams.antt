@@ -1,76 +1,39 @@
--- The datagrams of a frame: its image cut into shards by the plan, each block's parity shards behind its
--- data shards, each shard behind the header of a datagram.
-use Rattle.std.specs.Prelude.{ℕ, zero, suc, ◌+◌, ◌-◌, ◌*◌, ◌%◌, ◌^◌, List, [], ◌∷◌, ◌++◌, length, take, drop, map, slice_index, ◌==◌, if◌then◌else◌}
-use Rattle.std.specs.List.{range_with_len}
-use Rattle.byteorder.specs.Endian.{little_bytes, little_number}
-use Rattle.gs_gf256.specs.Field.{product, field_sum}
-use Rattle.gs_rs.specs.declared.shape.Shape.{Shape}
-use Rattle.gs_rs.specs.Shape.{video_code, coefficient}
+-- The datagrams of a frame. A frame is a list of shards, each with the head of its datagram: its datagrams are the
+-- bytes of that list, and what a client receives of them is the list itself.
+use Rattle.std.specs.Prelude.{ℕ, ◌+◌, ◌-◌, ◌*◌, ◌%◌, ◌^◌, List, [], ◌∷◌, ◌++◌, length, drop, map}
 use Rattle.gs_rtp.specs.Stream.{StreamSettings}
 use Rattle.gs_rtp.specs.declared.video.VideoHead.{VideoHead}
 use Rattle.gs_rtp.specs.Video.{video_header}
 use Rattle.gs_frames.specs.Image.{frame_image, packets}
 use Rattle.gs_frames.specs.Plan.{fec_plan, BlockPlan}
+use Rattle.gs_frames.specs.Shards.{packet_header, payload_of, read_covered, block_shards}
+use Rattle.gs_frames.specs.Received.{Received}
 
--- the part of a packet's size that isn't payload
-abbrev pub packet_header : ℕ
-packet_header = 16
+-- the datagram with this head that carries this shard: the head's bytes, in which what the shard begins with stands at
+-- its places, and the payload
+abbrev pub datagram_of : Received → List ℕ
+datagram_of r = video_header r.head ++ drop packet_header r.shard
 
-abbrev pub payload_of : StreamSettings → ℕ
-payload_of settings = settings.packet - packet_header
-
--- the n shares of `size` bytes at the front
-abbrev pub shares : ℕ → ℕ → List ℕ → List (List ℕ)
-shares zero size bytes = []
-shares (suc n) size bytes = take size bytes ∷ shares n size (drop size bytes)
-
--- picture data, the end of a block's data, the start of it
-abbrev pub flags : ℕ → ℕ → ℕ
-flags d i = 1 + (if i + 1 == d then 2 else 0) + (if i == 0 then 4 else 0)
-
--- What parity covers of a data packet: the running number of the packet and its flags, with the other
--- fields of its header 0, and the payload. `count` is the number of datagrams before it.
-abbrev pub data_shard : ℕ → ℕ → List ℕ → List ℕ
-data_shard count flags payload =
-    little_bytes 4 (count % 2 ^ 24 * 256) ++ 0 ∷ 0 ∷ 0 ∷ 0 ∷ flags ∷ 0 ∷ 0 ∷ 0 ∷ 0 ∷ 0 ∷ 0 ∷ 0 ∷ payload
-
-abbrev pub data_shards_from : ℕ → ℕ → ℕ → List (List ℕ) → List (List ℕ)
-data_shards_from d i count [] = []
-data_shards_from d i count (payload ∷ payloads) =
-    data_shard count (flags d i) payload ∷ data_shards_from d (i + 1) (count + 1) payloads
-
--- byte k of shard i
-abbrev pub shard_byte : List (List ℕ) → ℕ → ℕ → ℕ
-shard_byte [] i k = 0
-shard_byte (shard ∷ shards) zero k = slice_index shard k
-shard_byte (shard ∷ shards) (suc i) k = shard_byte shards i k
-
--- a parity shard: each byte is the sum of the data shards' bytes at its place, each times its coefficient
-abbrev pub parity_shard : Shape → ℕ → List (List ℕ) → ℕ → List ℕ
-parity_shard code size shards row =
-    map (λ k. field_sum (λ i. product (coefficient code row i) (shard_byte shards i k)) code.data) (range_with_len 0 size)
-
--- a block's data shards and then its parity shards
-abbrev pub with_parity_shards : Shape → ℕ → List (List ℕ) → List (List ℕ)
-with_parity_shards code size shards = shards ++ map (parity_shard code size shards) (range_with_len 0 code.parity)
-
--- which block of a frame, and which is the last one
+-- which block of a frame, from a tick of this time in ms, and which is the last one
 pub record Place : Type 0 where
   pub frame : ℕ
   pub time : ℕ
   pub block : ℕ
   pub last_block : ℕ
 
--- The datagram of a shard: the covered fields of its header are the shard's own.
+abbrev pub next_block : Place → Place
+next_block place = record place { block = place.block + 1 }
+
+-- the head of the datagram of a block's shard, by its index in the block and the number of datagrams before it
 abbrev pub shard_head : StreamSettings → Place → BlockPlan → ℕ → ℕ → List ℕ → VideoHead
 shard_head settings place plan count index shard = record {
   sequence = count % 2 ^ 16;
   timestamp = place.time * 90 % 2 ^ 32;
   ssrc = settings.ssrc;
-  stream_index = little_number 4 shard;
+  stream_index = (read_covered shard).stream_index;
   frame = place.frame;
-  flags = slice_index shard 8;
-  extra = slice_index shard 9;
+  flags = (read_covered shard).flags;
+  extra = (read_covered shard).extra;
   multi_flags = 0x10;
   block = place.block;
   last_block = place.last_block;
@@ -79,32 +42,48 @@ shard_head settings place plan count index shard = record {
   percentage = plan.percentage;
 }
 
-abbrev pub shard_datagram : StreamSettings → Place → BlockPlan → ℕ → ℕ → List ℕ → List ℕ
-shard_datagram settings place plan count index shard =
-    video_header (shard_head settings place plan count index shard) ++ drop packet_header shard
+-- a shard with that head
+abbrev pub headed_shard : StreamSettings → Place → BlockPlan → ℕ → ℕ → List ℕ → Received
+headed_shard settings place plan count index shard =
+    record { head = shard_head settings place plan count index shard; shard = shard }
 
-abbrev pub shard_datagrams : StreamSettings → Place → BlockPlan → ℕ → ℕ → List (List ℕ) → List (List ℕ)
-shard_datagrams settings place plan count index [] = []
-shard_datagrams settings place plan count index (shard ∷ shards) =
-    shard_datagram settings place plan count index shard ∷ shard_datagrams settings place plan (count + 1) (index + 1) shards
-
-abbrev pub block_shards : StreamSettings → BlockPlan → ℕ → List ℕ → List (List ℕ)
-block_shards settings plan count image =
-    with_parity_shards (video_code plan.data_shards plan.parity_shards) settings.packet
-    (data_shards_from plan.data_shards 0 count (shares plan.data_shards (payload_of settings) image))
+-- the shards of a block, from this index on
+abbrev pub headed_shards : StreamSettings → Place → BlockPlan → ℕ → ℕ → List (List ℕ) → List Received
+headed_shards settings place plan count index [] = []
+headed_shards settings place plan count index (shard ∷ shards) =
+    headed_shard settings place plan count index shard
+    ∷ headed_shards settings place plan (count + 1) (index + 1) shards
 
 -- block after block, each with the next payloads of the image
-abbrev pub blocks_from : StreamSettings → ℕ → ℕ → ℕ → ℕ → ℕ → List BlockPlan → List ℕ → List (List ℕ)
-blocks_from settings frame time last_block block count [] image = []
-blocks_from settings frame time last_block block count (plan ∷ plans) image =
-    shard_datagrams settings (record { frame = frame; time = time; block = block; last_block = last_block }) plan count 0 (block_shards settings plan count image)
-    ++ blocks_from settings frame time last_block (block + 1) (count + plan.data_shards + plan.parity_shards) plans (drop (plan.data_shards * payload_of settings) image)
+abbrev pub headed_blocks : StreamSettings → Place → ℕ → List BlockPlan → List ℕ → List Received
+headed_blocks settings place count [] image = []
+headed_blocks settings place count (plan ∷ plans) image =
+    headed_shards settings place plan count 0 (block_shards settings plan count image)
+    ++ headed_blocks settings (next_block place) (count + plan.data_shards + plan.parity_shards) plans
+    (drop (plan.data_shards * payload_of settings) image)
 
 abbrev pub plan_of : StreamSettings → List ℕ → List BlockPlan
 plan_of settings unit = fec_plan (packets (length unit) (payload_of settings)) settings.percentage settings.minimum
 
--- The datagrams of a frame of this kind from a tick of this time, in ms; `count` is the number of the
--- session's video datagrams before it.
-unfoldable pub frame_datagrams : StreamSettings → ℕ → ℕ → ℕ → ℕ → List ℕ → List (List ℕ)
-frame_datagrams settings count frame kind time unit =
-    blocks_from settings frame time (length (plan_of settings unit) - 1) 0 count (plan_of settings unit) (frame_image kind unit (payload_of settings))
+-- a frame that goes out: how many datagrams of its session went out before it, its number, its kind, the time of its
+-- tick in ms, and its unit
+pub record OutgoingFrame : Type 0 where
+  pub count : ℕ
+  pub frame : ℕ
+  pub kind : ℕ
+  pub time : ℕ
+  pub unit : List ℕ
+
+-- its first block, of as many as the plan has
+abbrev pub first_place : OutgoingFrame → List BlockPlan → Place
+first_place out plans = record { frame = out.frame; time = out.time; block = 0; last_block = length plans - 1 }
+
+-- its shards, each with the head of its datagram
+unfoldable pub frame_shards : StreamSettings → OutgoingFrame → List Received
+frame_shards settings out =
+    headed_blocks settings (first_place out (plan_of settings out.unit)) out.count (plan_of settings out.unit)
+    (frame_image out.kind out.unit (payload_of settings))
+
+-- Its datagrams.
+unfoldable pub frame_datagrams : StreamSettings → OutgoingFrame → List (List ℕ)
+frame_datagrams settings out = map datagram_of (frame_shards settings out)

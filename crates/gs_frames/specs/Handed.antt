@@ -1,23 +1,15 @@
--- Which frames a client hands to its decoder, and which it asks the host to make good.
-use Rattle.std.specs.Prelude.{ℕ, zero, suc, ◌+◌, ◌-◌, Bool, false, ◌&&◌, ◌||◌, not, List, [], ◌∷◌, ◌++◌, Option, Some, None, is_some, nat_lt, nat_le, ◌==◌, if◌then◌else◌}
-use Rattle.gs_rtp.specs.Stream.{StreamSettings}
+-- Which frames a client hands to its decoder.
+use Rattle.std.specs.Prelude.{ℕ, zero, suc, ◌+◌, Bool, true, ◌&&◌, ◌||◌, not, List, [], ◌∷◌, ◌++◌, Option, Some, None, nat_lt, ◌==◌, if◌then◌else◌}
+use Rattle.std.specs.List.{filter, find, list_any}
+use Rattle.gs_frames.specs.Client.{ClientSettings, Arrival, Datagram, Reset}
 use Rattle.gs_frames.specs.Image.{Frame}
-use Rattle.gs_frames.specs.Received.{Received, taken, greatest}
+use Rattle.gs_frames.specs.Received.{Received, taken}
 use Rattle.gs_frames.specs.Complete.{complete}
+use Rattle.gs_frames.specs.Settled.{settled}
 
 -- a frame that can be decoded whatever was lost before it
 abbrev pub is_re_entry : ℕ → Bool
 is_re_entry kind = kind == 2 || kind == 5
-
--- a frame of this kind is handed, where the one below was or wasn't
-abbrev pub is_decodable : Bool → Option Frame → Bool
-is_decodable below None = false
-is_decodable below (Some frame) = is_re_entry frame.kind || below
-
--- A complete frame is handed where it is a re-entry frame or the frame one below was handed.
-unfoldable pub is_handed : StreamSettings → List Received → ℕ → Bool
-is_handed settings rs zero = false
-is_handed settings rs (suc f) = is_decodable (is_handed settings rs f) (complete settings rs (suc f))
 
 -- a frame that was handed: its index, its kind and its unit
 pub record Handed : Type 0 where
@@ -25,46 +17,50 @@ pub record Handed : Type 0 where
   pub kind : ℕ
   pub unit : List ℕ
 
-abbrev pub handed_one : ℕ → Option Frame → List Handed
-handed_one f None = []
-handed_one f (Some frame) = record { frame = f; kind = frame.kind; unit = frame.unit } ∷ []
+-- up to which frame it was settled at each reset, the newest reset first
+abbrev pub settled_at_resets : ClientSettings → List Arrival → List ℕ
+settled_at_resets client [] = []
+settled_at_resets client (Datagram bytes ∷ came) = settled_at_resets client came
+settled_at_resets client (Reset ∷ came) = settled client (taken client came) ∷ settled_at_resets client came
 
--- those of the first n frames, by rising index
-unfoldable pub handed_through : StreamSettings → List Received → ℕ → List Handed
-handed_through settings rs zero = []
-handed_through settings rs (suc f) =
-    handed_through settings rs f ++ (if is_handed settings rs (suc f) then handed_one (suc f) (complete settings rs (suc f)) else [])
+-- the last reset before what settled the frame, where there was one: at an earlier reset the frame wasn't settled
+abbrev pub last_reset_before : List ℕ → ℕ → Option ℕ
+last_reset_before resets frame = find (λ reset. nat_lt reset frame) resets
 
-abbrev pub handed_of : StreamSettings → List Received → List Handed
-handed_of settings rs = handed_through settings rs (greatest rs)
+-- an IDR frame was handed behind that reset
+abbrev pub has_idr_since : List Handed → Option ℕ → Bool
+has_idr_since below None = true
+has_idr_since below (Some reset) = list_any (λ h. h.kind == 2 && nat_lt reset h.frame) below
 
--- the frames handed of what came, the newest datagram first
-unfoldable pub handed : StreamSettings → List (List ℕ) → List Handed
-handed settings came = handed_of settings (taken settings came)
+-- A frame that refers to another is barred from a reset on, until an IDR frame below it was handed.
+abbrev pub is_barred : List ℕ → List Handed → ℕ → ℕ → Bool
+is_barred resets below frame kind = not (kind == 2) && not (has_idr_since below (last_reset_before resets frame))
 
--- frames that were lost, and those between them
-pub record Range : Type 0 where
-  pub first : ℕ
-  pub last : ℕ
+-- A frame of this kind is handed, behind those of the frames below it that are: it isn't barred, and it is a re-entry
+-- frame or follows a handed one.
+abbrev pub is_handed : List ℕ → List Handed → ℕ → ℕ → Bool
+is_handed resets below frame kind =
+    not (is_barred resets below frame kind) && (is_re_entry kind || list_any (λ h. h.frame + 1 == frame) below)
 
--- from the greatest frame before, where that isn't complete, else from the one after it
-abbrev pub first_lost : StreamSettings → List Received → ℕ
-first_lost settings rs =
-    if nat_lt 0 (greatest rs) && not (is_some (complete settings rs (greatest rs))) then greatest rs else greatest rs + 1
+abbrev pub hand_on : List ℕ → List Handed → ℕ → Option Frame → List Handed
+hand_on resets below frame None = below
+hand_on resets below frame (Some held) =
+    if is_handed resets below frame held.kind
+    then below ++ record { frame = frame; kind = held.kind; unit = held.unit } ∷ []
+    else below
 
--- a range, where it isn't empty
-abbrev pub range_or_none : ℕ → ℕ → List Range
-range_or_none first last = if nat_le first last then record { first = first; last = last } ∷ [] else []
+-- of the first n frames those that are handed, by rising index
+unfoldable pub handed_through : ClientSettings → List Received → List ℕ → ℕ → List Handed
+handed_through client rs resets zero = []
+handed_through client rs resets (suc f) =
+    hand_on resets (handed_through client rs resets f) (suc f) (complete client rs (suc f))
 
--- what the arrival of r after rs makes the client ask for: the frames below its own that it passes by
-abbrev pub asks_for : StreamSettings → Received → List Received → List Range
-asks_for settings r rs =
-    if nat_lt (greatest rs) r.head.frame then range_or_none (first_lost settings rs) (r.head.frame - 1) else []
+-- the frames handed, of all that the client was given: complete and settled ones, by rising index
+unfoldable pub handed : ClientSettings → List Arrival → List Handed
+handed client came =
+    handed_through client (taken client came) (settled_at_resets client came) (settled client (taken client came))
 
-unfoldable pub asks_of : StreamSettings → List Received → List Range
-asks_of settings [] = []
-asks_of settings (r ∷ rs) = asks_of settings rs ++ asks_for settings r rs
-
--- the ranges asked for of what came, in the order of the asks
-unfoldable pub asks : StreamSettings → List (List ℕ) → List Range
-asks settings came = asks_of settings (taken settings came)
+-- the frames that one more arrival hands: those that it settles
+abbrev pub newly_handed : ClientSettings → Arrival → List Arrival → List Handed
+newly_handed client arrival came =
+    filter (λ h. nat_lt (settled client (taken client came)) h.frame) (handed client (arrival ∷ came))

@@ -15,7 +15,8 @@ packets length payload = ceil_div (header_length + length) payload
 
 -- how much of the last of them it takes
 abbrev pub last_length : ℕ → ℕ → ℕ
-last_length length payload = if (header_length + length) % payload == 0 then payload else (header_length + length) % payload
+last_length length payload =
+    if (header_length + length) % payload == 0 then payload else (header_length + length) % payload
 
 -- a mark, the latency in two bytes, the kind, the length of the last payload in two bytes, two bytes more
 abbrev pub image_header : ℕ → ℕ → List ℕ
@@ -63,7 +64,10 @@ unit_length payload image = (length image / payload - 1) * payload + last_read i
 unfoldable pub frame_of : ℕ → List ℕ → Option Frame
 frame_of payload image =
     if is_frame_image payload image
-    then Some (record { kind = kind_of (slice_index image 3); unit = take (unit_length payload image) (drop header_length image) })
+    then Some (record {
+      kind = kind_of (slice_index image 3);
+      unit = take (unit_length payload image) (drop header_length image);
+    })
     else None
 
 abbrev pub IsFrameImage : ℕ → List ℕ → Frame → Type 0

@@ -4,8 +4,9 @@ use Rattle.gs_rtp.specs.Stream.{StreamSettings}
 use Rattle.gs_rtp.specs.declared.video.VideoHead.{VideoHead}
 use Rattle.gs_rtp.specs.Video.{video_header}
 use Rattle.gs_frames.specs.Image.{frame_image, frame_of, header_length}
-use Rattle.gs_frames.specs.Datagrams.{packet_header, payload_of}
-use Rattle.gs_frames.specs.Received.{Received, shard_of}
+use Rattle.gs_frames.specs.Shards.{packet_header, payload_of}
+use Rattle.gs_frames.specs.Datagrams.{OutgoingFrame}
+use Rattle.gs_frames.specs.Received.{Received, carried_shard}
 
 -- an IDR frame's unit fits one packet of a stream without parity
 pub record FitsOnePacket (settings : StreamSettings) (unit : List ℕ) : Type 0 where
@@ -13,6 +14,10 @@ pub record FitsOnePacket (settings : StreamSettings) (unit : List ℕ) : Type 0 
   pub room : packet_header + (header_length + length unit) ≤ settings.packet
   pub packet_greatest : settings.packet ≤ 1440
   pub ssrc_greatest : settings.ssrc < 2 ^ 32
+
+-- such a frame goes out
+abbrev pub lone_frame : ℕ → ℕ → ℕ → List ℕ → OutgoingFrame
+lone_frame count frame time unit = record { count = count; frame = frame; kind = 2; time = time; unit = unit }
 
 -- the head of its datagram
 abbrev pub lone_head : StreamSettings → ℕ → ℕ → ℕ → VideoHead
@@ -41,7 +46,8 @@ lone_datagram settings count frame time unit =
 abbrev pub lone_received : StreamSettings → ℕ → ℕ → ℕ → List ℕ → Received
 lone_received settings count frame time unit = record {
   head = lone_head settings count frame time;
-  shard = shard_of settings.packet (lone_datagram settings count frame time unit);
+  shard = carried_shard settings.packet (lone_head settings count frame time)
+      (lone_datagram settings count frame time unit);
 }
 
 -- what was received is the one datagram of an IDR frame

@@ -1,0 +1,23 @@
+-- What a client is, and what it was given.
+use Rattle.std.specs.Prelude.{ℕ, ◌≤◌, List, map}
+use Rattle.gs_rtp.specs.Stream.{StreamSettings}
+
+-- the settings of its stream, and how many frames, the newest, it keeps open: its window, of 1 to 4
+pub record ClientSettings : Type 0 where
+  pub stream : StreamSettings
+  pub window : ℕ
+
+-- its window is one of these
+pub record HasWindow (client : ClientSettings) : Type 0 where
+  pub least : 1 ≤ client.window
+  pub greatest : client.window ≤ 4
+
+-- What a client is given: the bytes of a datagram, or a reset of its decoder, which then needs an IDR frame.
+-- A list of these has the newest first.
+pub data Arrival : Type 0 where
+  Datagram : List ℕ → Arrival
+  Reset : Arrival
+
+-- given these datagrams, and no reset
+abbrev pub datagrams : List (List ℕ) → List Arrival
+datagrams came = map (λ bytes. Datagram bytes) came
