@@ -1,99 +1,148 @@
--- The frames that are handed stand by rising index.
-use Rattle.std.proofs.Common.{◌≡◌, ◌<◌, ◌≤◌, ℕ, zero, suc, Bool, true, false, List, [], ◌∷◌, ◌++◌, length, map, take, Option, Some, sym, ap, subst, ◌∙◌, arith, inl, inr}
-use Rattle.std.specs.Prelude.{if◌then◌else◌, slice_index}
-use Rattle.std.specs.List.{Contains}
-use Rattle.std.proofs.lemmas.Bool.{cases_Bool, cases_lt, cases_eq, false≢true}
-use Rattle.std.proofs.lemmas.List.{map-append, append-nil, length_push, get_or_append_left, get_or_push, take-append-le, take_at}
-use Rattle.std.proofs.lemmas.List.Elements.{Contains-append_left, Contains-push}
-use Rattle.gs_rtp.specs.Stream.{StreamSettings}
-use Rattle.gs_frames.specs.Image.{Frame}
-use Rattle.gs_frames.specs.Received.{Received}
-use Rattle.gs_frames.specs.Complete.{complete}
-use Rattle.gs_frames.specs.Handed.{Handed, is_handed, handed_one, handed_through}
-use Rattle.gs_pair.proofs.Descent.{handed_is, none_is_not_handed}
+-- At which places the handed frames stand, and where the resets part them.
+use Rattle.std.proofs.Common.{◌≡◌, ◌<◌, ◌≤◌, ◌-◌, ℕ, true, List, [], ◌∷◌, ◌++◌, length, map, get_or, refl, sym, ap, subst, ◌∙◌, arith, inl, inr, length-append}
+use Rattle.std.specs.Prelude.{nat_lt, AllPairs}
+use Rattle.std.specs.List.{All, Contains}
+use Rattle.std.specs.List.Sorted.{IsNonDecreasing}
+use Rattle.std.proofs.lemmas.Bool.{cases_lt, ltb-true}
+use Rattle.std.proofs.lemmas.List.{append-nil, get_or_default, get_or-map, get_or_append_left, get_or-append_right, length-map}
+use Rattle.std.proofs.lemmas.List.Elements.{All-nil, All-push, All-weaker, All-contains, Contains-get_or, filter_passes}
+use Rattle.std.proofs.lemmas.List.Sorted.{IsNonDecreasingBy-short, IsNonDecreasingBy-push}
+use Rattle.gs_frames.specs.Client.{ClientSettings, Arrival, Datagram, Reset}
+use Rattle.gs_frames.specs.Received.{taken}
+use Rattle.gs_frames.specs.Settled.{settled}
+use Rattle.gs_frames.specs.Handed.{Handed, settled_at_resets, handed, newly_handed}
+use Rattle.gs_frames.proofs.HandedGrows.{handed_exactly, arrival_hands, reset_hands_nothing}
+use Rattle.gs_pair.specs.References.{handed_frames, reset_cuts, CutsAreInOrder}
+use Rattle.gs_pair.proofs.Barred.{resets_within, in_front, behind_one}
 
--- the indexes of the handed ones of the first n frames
-abbrev pub indexes_through : StreamSettings → List Received → ℕ → List ℕ
-indexes_through settings rs n = map (λ f. f.frame) (handed_through settings rs n)
+-- ---- places
 
-abbrev indexes_by : StreamSettings → List Received → ℕ → Bool → Option Frame → List ℕ
-indexes_by settings rs n handed held = map (λ f. f.frame) (handed_through settings rs n ++ (if handed then handed_one (suc n) held else []))
+abbrev no_frame : Handed
+no_frame = record { frame = 0; kind = 0; unit = [] }
 
-indexes-handed : (settings : StreamSettings) (rs : List Received) (n : ℕ) → is_handed settings rs (suc n) ≡ true
-    → indexes_through settings rs (suc n) ≡ indexes_through settings rs n ++ suc n ∷ []
-unfolding handed_through
-indexes-handed settings rs n handed =
-    let is = handed_is settings rs n handed in
-    ap (λ (b : Bool). indexes_by settings rs n b (complete settings rs (suc n))) handed
-    ∙ ap (indexes_by settings rs n true) is.1
-    ∙ map-append (λ (f : Handed). f.frame) (handed_through settings rs n) (handed_one (suc n) (Some is.0))
+-- the frame at a place
+abbrev pub at : List Handed → ℕ → Handed
+at hs i = get_or hs i no_frame
 
-indexes-other : (settings : StreamSettings) (rs : List Received) (n : ℕ) → is_handed settings rs (suc n) ≡ false
-    → indexes_through settings rs (suc n) ≡ indexes_through settings rs n
-unfolding handed_through
-indexes-other settings rs n other =
-    ap (λ (b : Bool). indexes_by settings rs n b (complete settings rs (suc n))) other
-    ∙ ap (λ (l : List Handed). map (λ (f : Handed). f.frame) l) (append-nil (handed_through settings rs n))
+pub frame_at : (hs : List Handed) (i : ℕ) → i < length hs → get_or (map (λ h. h.frame) hs) i 0 ≡ (at hs i).frame
+frame_at hs i within = get_or-map (λ h. h.frame) hs i no_frame 0 within
 
--- each handed frame up to n stands among them
-pub handed_stands : (settings : StreamSettings) (rs : List Received) (n w : ℕ) → w ≤ n → is_handed settings rs w ≡ true → Contains (indexes_through settings rs n) w
-handed_stands settings rs zero w most handed =
-    let none : w ≡ 0 = omega arith in
-    let Handed : ℕ → Type 0 = λ f. is_handed settings rs f ≡ true in
-    absurd (none_is_not_handed settings rs (subst Handed none handed))
-handed_stands settings rs (suc n) w most handed =
-    let Has : List ℕ → Type 0 = λ l. Contains l w in
-    let Is : ℕ → Type 0 = λ f. is_handed settings rs f ≡ true in
-    elim (cases_Bool (is_handed settings rs (suc n))) [
-      | inl it ↦ subst Has (sym (indexes-handed settings rs n it)) (elim (cases_eq (suc n) w) [
-        | inl last ↦
-            let Pushed : ℕ → Type 0 = λ f. Contains (indexes_through settings rs n ++ suc n ∷ []) f in
-            subst Pushed last (Contains-push (indexes_through settings rs n) (suc n))
-        | inr other ↦
-            Contains-append_left (indexes_through settings rs n) (suc n ∷ []) w (handed_stands settings rs n w (omega arith) handed)
-      ])
-      | inr not_it ↦ subst Has (sym (indexes-other settings rs n not_it)) (elim (cases_eq w (suc n)) [
-        | inl last ↦ absurd (false≢true (sym not_it ∙ subst Is last handed))
-        | inr other ↦ handed_stands settings rs n w (omega arith) handed
-      ])
-    ]
+-- a member stands at a place
+pub record StandsAt (hs : List Handed) (g : Handed) (i : ℕ) : Type 0 where
+  pub within : i < length hs
+  pub is : at hs i ≡ g
 
--- each of these frames is handed, and each handed one below it stands before it
-abbrev pub AreInOrder : StreamSettings → List Received → List ℕ → Type 0
-AreInOrder settings rs fs =
-    (i : ℕ) → i < length fs → (is_handed settings rs (slice_index fs i) ≡ true)
-    × ((w : ℕ) → w < slice_index fs i → is_handed settings rs w ≡ true → Contains (take i fs) w)
+pub stands_at : (hs : List Handed) (g : Handed) → Contains hs g → (i : ℕ) × StandsAt hs g i
+stands_at hs g found = (found.0, record { within = found.1; is = get_or_default hs found.0 no_frame g found.1 ∙ found.2 })
 
-in_order-push : (settings : StreamSettings) (rs : List Received) (fs : List ℕ) (f : ℕ) → AreInOrder settings rs fs → is_handed settings rs f ≡ true
-    → ((w : ℕ) → w < f → is_handed settings rs w ≡ true → Contains fs w) → AreInOrder settings rs (fs ++ f ∷ [])
-in_order-push settings rs fs f order handed below i within =
-    let Is : ℕ → Type 0 = λ g. is_handed settings rs g ≡ true in
-    let count = length_push fs f in
-    elim (cases_lt i (length fs)) [
-      | inl before ↦
-          let it = get_or_append_left fs (f ∷ []) 0 i before in (
-            subst Is (sym it) (order i before).0,
-            λ w less is.
-                let Has : List ℕ → Type 0 = λ l. Contains l w in
-                subst Has (sym (take-append-le i fs (f ∷ []) (omega arith))) ((order i before).1 w (omega (arith, it)) is),
-          )
-      | inr after ↦
-          let end : length fs ≡ i = omega (arith, count) in
-          let it = get_or_push fs f 0 i end in (
-            subst Is (sym it) handed,
-            λ w less is.
-                let Has : List ℕ → Type 0 = λ l. Contains l w in
-                subst Has (sym (take_at fs (f ∷ []) i end)) (below w (omega (arith, it)) is),
-          )
-    ]
+-- a smaller frame stands before
+pub smaller_before : (hs : List Handed) (i j : ℕ) → AllPairs (λ a b. a.frame < b.frame) hs → i < length hs → j < length hs
+    → (at hs j).frame < (at hs i).frame → j < i
+smaller_before hs i j rise within inside less = elim (cases_lt j i) [
+  | inl before ↦ before
+  | inr not_before ↦ elim (cases_lt i j) [
+    | inl behind ↦ let more = rise i j no_frame behind inside in absurd (omega arith)
+    | inr not_behind ↦
+        let same : j ≡ i = omega arith in
+        let Less : ℕ → Type 0 = λ k. (at hs k).frame < (at hs i).frame in
+        let itself : (at hs i).frame < (at hs i).frame = subst Less same less in
+        absurd (omega arith)
+  ]
+]
 
-pub handed_in_order : (settings : StreamSettings) (rs : List Received) (n : ℕ) → AreInOrder settings rs (indexes_through settings rs n)
-unfolding handed_through
-handed_in_order settings rs zero = λ i within. absurd (omega arith)
-handed_in_order settings rs (suc n) =
-    let Order : List ℕ → Type 0 = AreInOrder settings rs in
-    elim (cases_Bool (is_handed settings rs (suc n))) [
-      | inl it ↦ subst Order (sym (indexes-handed settings rs n it))
-          (in_order-push settings rs (indexes_through settings rs n) (suc n) (handed_in_order settings rs n) it (λ w less is. handed_stands settings rs n w (omega arith) is))
-      | inr not_it ↦ subst Order (sym (indexes-other settings rs n not_it)) (handed_in_order settings rs n)
-    ]
+-- ---- cuts
+
+-- the frames before the cut are at most that one, and those behind it are above
+pub record IsCut (hs : List Handed) (reset cut : ℕ) : Type 0 where
+  pub within : cut ≤ length hs
+  pub before : (i : ℕ) → i < cut → (at hs i).frame ≤ reset
+  pub behind : (i : ℕ) → cut ≤ i → i < length hs → reset < (at hs i).frame
+
+cut-more : (hs more : List Handed) (reset cut : ℕ) → IsCut hs reset cut → All (λ h. reset < h.frame) more → IsCut (hs ++ more) reset cut
+cut-more hs more reset cut is above =
+    let within : cut ≤ length hs = is.within in
+    record {
+      within = omega (arith, length-append hs more);
+      before = λ i less.
+          let same : at (hs ++ more) i ≡ at hs i = get_or_append_left hs more no_frame i (omega arith) in
+          let Most : Handed → Type 0 = λ h. h.frame ≤ reset in
+          subst Most (sym same) (is.before i less);
+      behind = λ i from inside. elim (cases_lt i (length hs)) [
+        | inl old ↦
+            let same : at (hs ++ more) i ≡ at hs i = get_or_append_left hs more no_frame i old in
+            let Above : Handed → Type 0 = λ h. reset < h.frame in
+            subst Above (sym same) (is.behind i from old)
+        | inr new ↦
+            let same : at (hs ++ more) i ≡ at more (i - length hs) = get_or-append_right hs more (length hs) i no_frame refl new in
+            let Above : Handed → Type 0 = λ h. reset < h.frame in
+            subst Above (sym same) (above (i - length hs) no_frame (omega (arith, length-append hs more)))
+      ];
+    }
+
+-- the cut of one of the resets
+pub record IsResetCut (client : ClientSettings) (came : List Arrival) (cut : ℕ) : Type 0 where
+  pub reset : ℕ
+  pub is_reset : Contains (settled_at_resets client came) reset
+  pub is_cut : IsCut (handed client came) reset cut
+
+-- what one more arrival hands is above what was settled
+new_above : (client : ClientSettings) (arrival : Arrival) (came : List Arrival) (reset : ℕ) → reset ≤ settled client (taken client came)
+    → All (λ h. reset < h.frame) (newly_handed client arrival came)
+new_above client arrival came reset most =
+    let s = settled client (taken client came) in
+    All-weaker (λ h. nat_lt s h.frame ≡ true) (λ h. reset < h.frame) (λ h passes. let above = ltb-true s h.frame passes in omega arith)
+    (newly_handed client arrival came) (filter_passes (λ h. nat_lt s h.frame) (handed client (arrival ∷ came)))
+
+cut_stays : (client : ClientSettings) (arrival : Arrival) (came : List Arrival) (cut : ℕ) (is : IsResetCut client came cut)
+    → IsCut (handed client (arrival ∷ came)) is.reset cut
+cut_stays client arrival came cut is =
+    let most = All-contains (λ s. s ≤ settled client (taken client came)) (settled_at_resets client came) is.reset (resets_within client came) is.is_reset in
+    let Cut : List Handed → Type 0 = λ hs. IsCut hs is.reset cut in
+    subst Cut (sym (arrival_hands client arrival came))
+    (cut-more (handed client came) (newly_handed client arrival came) is.reset cut is.is_cut (new_above client arrival came is.reset most))
+
+-- the cut of a reset that comes now
+new_cut : (client : ClientSettings) (came : List Arrival)
+    → IsCut (handed client (Reset ∷ came)) (settled client (taken client came)) (length (handed client came))
+new_cut client came =
+    let hs = handed client came in
+    let Cut : List Handed → Type 0 = λ l. IsCut l (settled client (taken client came)) (length hs) in
+    let same : handed client (Reset ∷ came) ≡ hs =
+    arrival_hands client Reset came ∙ ap (λ (l : List Handed). hs ++ l) (reset_hands_nothing client came) ∙ append-nil hs in
+    subst Cut (sym same) (record {
+      within = omega arith;
+      before = λ i less. ((handed_exactly client came (at hs i)).0 (Contains-get_or hs i no_frame less)).is_settled;
+      behind = λ i from inside. absurd (omega arith);
+    })
+
+pub cuts_are : (client : ClientSettings) (came : List Arrival) → All (IsResetCut client came) (reset_cuts client came)
+cuts_are client [] = All-nil (IsResetCut client [])
+cuts_are client (Datagram bytes ∷ came) =
+    All-weaker (IsResetCut client came) (IsResetCut client (Datagram bytes ∷ came))
+    (λ cut is. record { reset = is.reset; is_reset = is.is_reset; is_cut = cut_stays client (Datagram bytes) came cut is })
+    (reset_cuts client came) (cuts_are client came)
+cuts_are client (Reset ∷ came) =
+    let s = settled client (taken client came) in
+    let resets = settled_at_resets client came in
+    All-push (IsResetCut client (Reset ∷ came)) (reset_cuts client came) (length (handed client came))
+    (All-weaker (IsResetCut client came) (IsResetCut client (Reset ∷ came))
+    (λ cut is. record { reset = is.reset; is_reset = behind_one s resets is.reset is.is_reset; is_cut = cut_stays client Reset came cut is })
+    (reset_cuts client came) (cuts_are client came))
+    (record { reset = s; is_reset = in_front s resets; is_cut = new_cut client came })
+
+-- they rise or stay equal
+cuts_rise : (client : ClientSettings) (came : List Arrival) → IsNonDecreasing (reset_cuts client came)
+cuts_rise client [] = IsNonDecreasingBy-short (λ x. x) [] (omega arith)
+cuts_rise client (Datagram bytes ∷ came) = cuts_rise client came
+cuts_rise client (Reset ∷ came) =
+    let cuts = reset_cuts client came in
+    IsNonDecreasingBy-push (λ x. x) cuts (length (handed client came)) (cuts_rise client came)
+    (λ d some. (cuts_are client came (length cuts - 1) d (omega arith)).is_cut.within)
+
+pub cuts_in_order : CutsAreInOrder
+cuts_in_order client came =
+    let all = length-map (handed client came) (λ (h : Handed). h.frame) in (
+      cuts_rise client came,
+      All-weaker (IsResetCut client came) (λ cut. cut ≤ length (handed_frames client came))
+          (λ cut is. let within : cut ≤ length (handed client came) = is.is_cut.within in omega arith) (reset_cuts client came) (cuts_are client came),
+    )

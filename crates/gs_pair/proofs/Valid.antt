@@ -1,20 +1,20 @@
--- What a legal history keeps of its frames: their kinds, and which are valid.
-use Rattle.std.proofs.Common.{◌≡◌, ◌≢◌, ◌≤◌, ◌+◌, ℕ, suc, Bool, true, false, not, ◌&&◌, ◌||◌, List, [], ◌∷◌, sym, ap, subst, ◌∙◌, arith, inl, inr}
-use Rattle.std.specs.Prelude.{◌==◌, nat_lt, if◌then◌else◌}
+-- What a legal history keeps of its frames: what each may refer to, and which are valid.
+use Rattle.std.proofs.Common.{◌≡◌, ◌≢◌, ◌<◌, ◌≤◌, ◌+◌, ℕ, suc, Bool, true, false, not, ◌&&◌, ◌||◌, List, [], ◌∷◌, sym, ap, subst, ◌∙◌, arith, inl, inr}
+use Rattle.std.specs.Prelude.{◌==◌, nat_lt}
 use Rattle.std.specs.List.{Contains}
-use Rattle.std.proofs.lemmas.Bool.{cond-true, cond-false, cases_eq, eq-eqb, ne_eqb, eqb-true, ltb-true, lt-ltb, and_parts, and_from, or_cases, or_right, not_from_false, false_from_ne_true, false≢true}
+use Rattle.std.proofs.lemmas.Bool.{cases_eq, eq-eqb, ne_eqb, eqb-true, ltb-true, lt-ltb, and_parts, and_from, or_cases, or_right, not_from_false, not_from_true, false_from_ne_true, false≢true}
 use Rattle.std.proofs.lemmas.List.Elements.{Contains-push_cases}
 use Rattle.gs_tape.specs.Tick.{Tick}
 use Rattle.gs_refs.specs.declared.entry.Entry.{Entry}
 use Rattle.gs_refs.specs.declared.entry.Entry.TheVariants.{Sent, Invalid, IdrAsked, Ended}
-use Rattle.gs_refs.specs.History.{frames, last_tick, is_valid, IsValid, idr_is_owed}
+use Rattle.gs_refs.specs.History.{frames, frame_kind, last_tick, is_valid, IsValid, idr_is_owed}
 use Rattle.gs_refs.specs.Choice.{Choice, names, choice, IsLegal}
 use Rattle.gs_refs.specs.ChoiceLaws.{IsSound}
 use Rattle.gs_refs.proofs.Choices.{choice_by, choice_is_sound}
+use Rattle.gs_refs.proofs.Lookups.{frame_kind-sent, frame_kind-before}
 use Rattle.gs_frames.specs.ImageLaws.{IsWrittenKind}
-use Rattle.gs_frames.specs.Handed.{Range}
+use Rattle.gs_frames.specs.declared.range.Range.{Range}
 use Rattle.gs_stream.specs.Paired.{invalid_ranges}
-use Rattle.gs_stream.specs.Video.{kind_of, reference_of}
 
 -- ---- the frame that is sent after a history
 
@@ -47,32 +47,14 @@ follower ticks h tick kind reference legal =
           no_re_entry h t (frames h == 0 || idr_is_owed h) (names t (last_tick h)) (sym (ap by valid) ∙ kind_is ∙ e));
     }
 
--- ---- the kind and the reference of a frame
-
-pub kind_of-sent : (h : List Entry) (tick kind reference f : ℕ) → f ≡ frames h + 1 → kind_of (Sent tick kind reference ∷ h) f ≡ kind
-kind_of-sent h tick kind reference f e = cond-true (f == frames h + 1) kind (kind_of h f) (eq-eqb f (frames h + 1) e)
-
-pub kind_of-before : (h : List Entry) (tick kind reference f : ℕ) → (f ≡ frames h + 1 → ⊥) → kind_of (Sent tick kind reference ∷ h) f ≡ kind_of h f
-kind_of-before h tick kind reference f other = cond-false (f == frames h + 1) kind (kind_of h f) (ne_eqb f (frames h + 1) other)
-
-pub reference_of-sent : (h : List Entry) (tick kind reference f : ℕ) → f ≡ frames h + 1
-    → reference_of (Sent tick kind reference ∷ h) f ≡ (if kind == 2 then 0 else reference)
-reference_of-sent h tick kind reference f e =
-    cond-true (f == frames h + 1) (if kind == 2 then 0 else reference) (reference_of h f) (eq-eqb f (frames h + 1) e)
-
-pub reference_of-before : (h : List Entry) (tick kind reference f : ℕ) → (f ≡ frames h + 1 → ⊥)
-    → reference_of (Sent tick kind reference ∷ h) f ≡ reference_of h f
-reference_of-before h tick kind reference f other =
-    cond-false (f == frames h + 1) (if kind == 2 then 0 else reference) (reference_of h f) (ne_eqb f (frames h + 1) other)
-
 -- ---- valid frames
 
 -- the frame before a valid one of kind 1 is valid too
-pub valid_below : (ticks : List Tick) (h : List Entry) (u : ℕ) → IsLegal ticks h → IsValid h (suc u) → kind_of h (suc u) ≡ 1 → IsValid h u
+pub valid_below : (ticks : List Tick) (h : List Entry) (u : ℕ) → IsLegal ticks h → IsValid h (suc u) → frame_kind h (suc u) ≡ 1 → IsValid h u
 valid_below ticks [] u legal valid kind_is = absurd (false≢true valid)
 valid_below ticks (Sent tick kind reference ∷ h) u legal valid kind_is = elim (cases_eq (suc u) (frames h + 1)) [
   | inl last ↦
-      let one : kind ≡ 1 = sym (kind_of-sent h tick kind reference (suc u) last) ∙ kind_is in
+      let one : kind ≡ 1 = sym (frame_kind-sent h tick kind reference (suc u) last) ∙ kind_is in
       let not_idr : kind ≢ 2 = λ e. absurd (omega (arith, e, one)) in
       let from = follower ticks h tick kind reference legal in
       let at : reference ≡ u = from.follows_last one ∙ omega arith in
@@ -82,7 +64,7 @@ valid_below ticks (Sent tick kind reference ∷ h) u legal valid kind_is = elim 
     | inl last ↦ absurd (other (eqb-true (suc u) (frames h + 1) last))
     | inr stays ↦
         let parts = and_parts (not (kind == 2)) (is_valid h (suc u)) stays in
-        let same = sym (kind_of-before h tick kind reference (suc u) other) ∙ kind_is in
+        let same = sym (frame_kind-before h tick kind reference (suc u) other) ∙ kind_is in
         or_right (u == frames h + 1) (not (kind == 2) && is_valid h u)
         (and_from (not (kind == 2)) (is_valid h u) parts.0 (valid_below ticks h u legal.0 parts.1 same))
   ]
@@ -138,3 +120,26 @@ valid_is_apart ticks (Invalid first last ∷ h) v range legal valid there least 
     ]
 valid_is_apart ticks (IdrAsked ∷ h) v range legal valid there least most = valid_is_apart ticks h v range legal.0 valid there least most
 valid_is_apart ticks (Ended first last ∷ h) v range legal valid there least most = valid_is_apart ticks h v range legal.0 valid there least most
+
+-- ---- IDR frames
+
+-- no frame before an IDR frame is valid
+pub none_before_idr : (h : List Entry) (v idr : ℕ) → v < idr → idr ≤ frames h → frame_kind h idr ≡ 2 → IsValid h v → ⊥
+none_before_idr [] v idr below most kind_is valid = absurd (false≢true valid)
+none_before_idr (Sent tick kind reference ∷ h) v idr below most kind_is valid =
+    elim (or_cases (v == frames h + 1) (not (kind == 2) && is_valid h v) valid) [
+      | inl last ↦ let this : v ≡ frames h + 1 = eqb-true v (frames h + 1) last in absurd (omega arith)
+      | inr stays ↦
+          let parts = and_parts (not (kind == 2)) (is_valid h v) stays in
+          elim (cases_eq idr (frames h + 1)) [
+            | inl newest ↦
+                let two : kind ≡ 2 = sym (frame_kind-sent h tick kind reference idr newest) ∙ kind_is in
+                absurd (false≢true (sym (not_from_true (kind == 2) (eq-eqb kind 2 two)) ∙ parts.0))
+            | inr other ↦
+                none_before_idr h v idr below (omega arith) (sym (frame_kind-before h tick kind reference idr other) ∙ kind_is) parts.1
+          ]
+    ]
+none_before_idr (Invalid first last ∷ h) v idr below most kind_is valid =
+    none_before_idr h v idr below most kind_is (and_parts (nat_lt v first) (is_valid h v) valid).1
+none_before_idr (IdrAsked ∷ h) v idr below most kind_is valid = none_before_idr h v idr below most kind_is valid
+none_before_idr (Ended first last ∷ h) v idr below most kind_is valid = none_before_idr h v idr below most kind_is valid

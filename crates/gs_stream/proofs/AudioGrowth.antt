@@ -8,10 +8,11 @@ use Rattle.std.proofs.lemmas.List.{take-append-le, drop-append-le, length-drop}
 use Rattle.gs_rs.specs.Shape.{audio_code}
 use Rattle.gs_rtp.specs.Stream.{StreamSettings}
 use Rattle.gs_rtp.specs.Audio.{audio_header, block_units}
+use Rattle.gs_rtp.specs.AudioDatagrams.{numbered, unit_datagrams, audio_datagrams}
 use Rattle.gs_tape.specs.Tick.{Tick}
 use Rattle.gs_refs.specs.declared.entry.Entry.{Entry}
-use Rattle.gs_frames.specs.Datagrams.{parity_shard}
-use Rattle.gs_stream.specs.Audio.{audio_units, numbered, unit_datagrams, audio_datagrams, audio_stream}
+use Rattle.gs_rs.specs.Shards.{parity_shard}
+use Rattle.gs_stream.specs.Audio.{audio_units, audio_stream}
 use Rattle.gs_stream.specs.Paired.{IsPrefixOf}
 use Rattle.gs_stream.proofs.Growth.{sounds_only_grow}
 
@@ -26,7 +27,8 @@ range-append a (suc n) m =
     ap (range_with_len a) more ∙ ap (λ (l : List ℕ). a ∷ l) (range-append (a + 1) n m)
     ∙ ap (λ (b : ℕ). a ∷ (range_with_len (a + 1) n ++ range_with_len b m)) start
 
-flat_map-range : {A : Type 0} (f g : ℕ → List A) (a n : ℕ) → ((k : ℕ) → k < a + n → f k ≡ g k) → flat_map f (range_with_len a n) ≡ flat_map g (range_with_len a n)
+flat_map-range : {A : Type 0} (f g : ℕ → List A) (a n : ℕ) → ((k : ℕ) → k < a + n → f k ≡ g k)
+    → flat_map f (range_with_len a n) ≡ flat_map g (range_with_len a n)
 flat_map-range f g a zero same = refl
 flat_map-range {A} f g a (suc n) same =
     ap (λ (l : List A). l ++ flat_map f (range_with_len (a + 1) n)) (same a (omega arith))
@@ -46,18 +48,19 @@ block-front us vs block h =
 
 abbrev parity_by : StreamSettings → ℕ → List (List ℕ) → List (List ℕ)
 parity_by settings block held =
-    (audio_header settings (record { parity = true; shard = 0; block = block }) ++ parity_shard audio_code settings.audio held 0)
-    ∷ (audio_header settings (record { parity = true; shard = 1; block = block }) ++ parity_shard audio_code settings.audio held 1) ∷ []
+    (audio_header settings (record { parity = true; shard = 0; block = block; ssrc = settings.ssrc }) ++ parity_shard audio_code settings.audio held 0)
+    ∷ (audio_header settings (record { parity = true; shard = 1; block = block; ssrc = settings.ssrc }) ++ parity_shard audio_code settings.audio held 1) ∷ []
 
 abbrev with_parity : StreamSettings → ℕ → Bool → List ℕ → List (List ℕ) → List (List ℕ)
 with_parity settings n last unit held =
-    (audio_header settings (record { parity = false; shard = n % block_units; block = n / block_units }) ++ unit)
+    (audio_header settings (record { parity = false; shard = n % block_units; block = n / block_units; ssrc = settings.ssrc }) ++ unit)
     ∷ (if last then parity_by settings (n / block_units) held else [])
 
 unit_datagrams-front : (settings : StreamSettings) (us vs : List (List ℕ)) (n : ℕ) → n < length us
     → unit_datagrams settings (us ++ vs) n ≡ unit_datagrams settings us n
 unit_datagrams-front settings us vs n h =
-    ap (λ (u : List ℕ). with_parity settings n (n % block_units == block_units - 1) u (take block_units (drop (n / block_units * block_units) (us ++ vs)))) (numbered-front us vs n h)
+    let block = take block_units (drop (n / block_units * block_units) (us ++ vs)) in
+    ap (λ (u : List ℕ). with_parity settings n (n % block_units == block_units - 1) u block) (numbered-front us vs n h)
     ∙ elim (cases_Bool (n % block_units == block_units - 1)) [
       | inl last ↦
           let at_end : n % block_units ≡ block_units - 1 = eqb-true (n % block_units) (block_units - 1) last in

@@ -1,19 +1,19 @@
 -- A history whose frames are IDR frames of one packet each.
-use Rattle.std.proofs.Common.{◌≡◌, ◌≤◌, ◌+◌, ◌-◌, ℕ, List, [], ◌∷◌, ◌++◌, length, Option, Some, refl, sym, ap, subst, ◌∙◌, arith, inl, inr}
-use Rattle.std.specs.Prelude.{◌==◌}
+use Rattle.std.proofs.Common.{◌≡◌, ◌≤◌, ◌+◌, ◌-◌, ℕ, List, [], ◌∷◌, ◌++◌, length, Option, Some, None, refl, sym, ap, subst, ◌∙◌, arith, inl, inr}
 use Rattle.std.specs.List.{slice_get}
-use Rattle.std.proofs.lemmas.Bool.{cond-true, cond-false, cases_eq, eq-eqb, ne_eqb}
+use Rattle.std.proofs.lemmas.Bool.{cases_eq}
 use Rattle.std.proofs.lemmas.List.{length_push}
 use Rattle.gs_rtp.specs.Stream.{StreamSettings}
-use Rattle.gs_tape.specs.Tick.{Tick}
+use Rattle.gs_tape.specs.Tick.{Tick, tick_numbered}
 use Rattle.gs_refs.specs.declared.entry.Entry.{Entry}
 use Rattle.gs_refs.specs.declared.entry.Entry.TheVariants.{Sent, Invalid, IdrAsked, Ended}
 use Rattle.gs_refs.specs.History.{frames, tick_of}
+use Rattle.gs_refs.proofs.Lookups.{sent_behind, sent_frame-sent, sent_frame-before, tick_of-sent, tick_of-before}
 use Rattle.gs_frames.specs.Datagrams.{frame_datagrams}
 use Rattle.gs_frames.specs.Lone.{FitsOnePacket, lone_datagram}
 use Rattle.gs_frames.proofs.OnePacket.{one_packet}
-use Rattle.gs_frames.proofs.Restored.{slice_get-append_left}
-use Rattle.gs_stream.specs.Video.{tick_numbered, sent_unit, time_of, unit_of, sent_datagrams, video_stream}
+use Rattle.gs_rs.proofs.HeldShards.{slice_get-append_left}
+use Rattle.gs_stream.specs.Video.{sent_unit, unit_or_empty, time_of, unit_of, sent_datagrams, video_stream}
 use Rattle.gs_stream.specs.StreamLaws.{IsLoneTick, AreLoneFrames, IsLoneFrame, IsLoneStream}
 
 -- ---- the last member of a list
@@ -24,17 +24,31 @@ slice_get-push (y ∷ xs) x n e = ap (slice_get (y ∷ xs ++ x ∷ [])) (sym e) 
 
 -- ---- one more frame
 
-lone_sent : (settings : StreamSettings) (ticks : List Tick) (h : List Entry) (count tick kind reference : ℕ) → kind ≡ 2 → (lone : IsLoneTick settings ticks tick)
-    → sent_datagrams settings ticks h count tick kind reference
+-- an IDR frame refers to nothing
+against-idr : (h : List Entry) (tick kind reference : ℕ) → kind ≡ 2 → (sent_behind h tick kind reference).against ≡ None
+against-idr h tick kind reference idr = ap (λ (k : ℕ). (sent_behind h tick k reference).against) idr
+
+unit-lone : (settings : StreamSettings) (ticks : List Tick) (h : List Entry) (tick kind reference : ℕ) → kind ≡ 2
+    → (lone : IsLoneTick settings ticks tick)
+    → sent_unit (tick_numbered ticks tick) (sent_behind h tick kind reference).against ≡ lone.tick.idr
+unit-lone settings ticks h tick kind reference idr lone =
+    let there : tick_numbered ticks tick ≡ Some lone.tick = lone.there in
+    ap (sent_unit (tick_numbered ticks tick)) (against-idr h tick kind reference idr) ∙ ap (λ (o : Option Tick). sent_unit o None) there
+
+lone_sent : (settings : StreamSettings) (ticks : List Tick) (h : List Entry) (count tick kind reference : ℕ) → kind ≡ 2
+    → (lone : IsLoneTick settings ticks tick)
+    → sent_datagrams settings ticks count (frames h + 1) (sent_behind h tick kind reference)
     ≡ lone_datagram settings count (frames h + 1) (time_of (tick_numbered ticks tick)) lone.tick.idr ∷ []
 lone_sent settings ticks h count tick kind reference idr lone =
-    let there : tick_numbered ticks tick ≡ Some lone.tick = lone.there in
-    let unit : sent_unit (tick_numbered ticks tick) 2 (tick_of h reference) ≡ lone.tick.idr = ap (λ (o : Option Tick). sent_unit o 2 (tick_of h reference)) there in
-    ap (λ (k : ℕ). sent_datagrams settings ticks h count tick k reference) idr
-    ∙ ap (frame_datagrams settings count (frames h + 1) 2 (time_of (tick_numbered ticks tick))) unit
-    ∙ one_packet settings count (frames h + 1) (time_of (tick_numbered ticks tick)) lone.tick.idr lone.fits
+    let time = time_of (tick_numbered ticks tick) in
+    let out : ℕ → List ℕ → List (List ℕ) =
+    λ k unit. frame_datagrams settings (record { count = count; frame = frames h + 1; kind = k; time = time; unit = unit }) in
+    ap (out kind) (unit-lone settings ticks h tick kind reference idr lone)
+    ∙ ap (λ (k : ℕ). out k lone.tick.idr) idr
+    ∙ one_packet settings count (frames h + 1) time lone.tick.idr lone.fits
 
-pub stream-sent : (settings : StreamSettings) (ticks : List Tick) (h : List Entry) (tick kind reference : ℕ) → kind ≡ 2 → (lone : IsLoneTick settings ticks tick)
+pub stream-sent : (settings : StreamSettings) (ticks : List Tick) (h : List Entry) (tick kind reference : ℕ) → kind ≡ 2
+    → (lone : IsLoneTick settings ticks tick)
     → length (video_stream settings ticks h) ≡ frames h
     → video_stream settings ticks (Sent tick kind reference ∷ h)
     ≡ video_stream settings ticks h ++ lone_datagram settings (frames h) (frames h + 1) (time_of (tick_numbered ticks tick)) lone.tick.idr ∷ []
@@ -44,32 +58,17 @@ stream-sent settings ticks h tick kind reference idr lone count =
     (lone_sent settings ticks h (length (video_stream settings ticks h)) tick kind reference idr lone
     ∙ ap (λ (n : ℕ). lone_datagram settings n (frames h + 1) (time_of (tick_numbered ticks tick)) lone.tick.idr ∷ []) count)
 
--- the tick and the unit of the frame that was sent last, and of those before
-tick_of-last : (h : List Entry) (tick kind reference : ℕ) → tick_of (Sent tick kind reference ∷ h) (frames h + 1) ≡ tick
-tick_of-last h tick kind reference =
-    cond-true (frames h + 1 == frames h + 1) tick (tick_of h (frames h + 1)) (eq-eqb (frames h + 1) (frames h + 1) refl)
-
-tick_of-before : (h : List Entry) (tick kind reference k : ℕ) → (k ≡ frames h + 1 → ⊥) → tick_of (Sent tick kind reference ∷ h) k ≡ tick_of h k
-tick_of-before h tick kind reference k other = cond-false (k == frames h + 1) tick (tick_of h k) (ne_eqb k (frames h + 1) other)
-
-unit_of-last : (ticks : List Tick) (h : List Entry) (tick kind reference : ℕ)
-    → unit_of ticks (Sent tick kind reference ∷ h) (frames h + 1) ≡ sent_unit (tick_numbered ticks tick) kind (tick_of h reference)
-unit_of-last ticks h tick kind reference =
-    cond-true (frames h + 1 == frames h + 1) (sent_unit (tick_numbered ticks tick) kind (tick_of h reference)) (unit_of ticks h (frames h + 1))
-    (eq-eqb (frames h + 1) (frames h + 1) refl)
+-- the unit of the frame that was sent last, and of those before
+pub unit_of-lone : (settings : StreamSettings) (ticks : List Tick) (h : List Entry) (tick kind reference : ℕ) → kind ≡ 2
+    → (lone : IsLoneTick settings ticks tick)
+    → unit_of ticks (Sent tick kind reference ∷ h) (frames h + 1) ≡ lone.tick.idr
+unit_of-lone settings ticks h tick kind reference idr lone =
+    ap (unit_or_empty ticks) (sent_frame-sent h tick kind reference (frames h + 1) refl)
+    ∙ unit-lone settings ticks h tick kind reference idr lone
 
 unit_of-before : (ticks : List Tick) (h : List Entry) (tick kind reference k : ℕ) → (k ≡ frames h + 1 → ⊥)
     → unit_of ticks (Sent tick kind reference ∷ h) k ≡ unit_of ticks h k
-unit_of-before ticks h tick kind reference k other =
-    cond-false (k == frames h + 1) (sent_unit (tick_numbered ticks tick) kind (tick_of h reference)) (unit_of ticks h k) (ne_eqb k (frames h + 1) other)
-
-pub unit_of-lone : (settings : StreamSettings) (ticks : List Tick) (h : List Entry) (tick kind reference : ℕ) → kind ≡ 2 → (lone : IsLoneTick settings ticks tick)
-    → unit_of ticks (Sent tick kind reference ∷ h) (frames h + 1) ≡ lone.tick.idr
-unit_of-lone settings ticks h tick kind reference idr lone =
-    let there : tick_numbered ticks tick ≡ Some lone.tick = lone.there in
-    unit_of-last ticks h tick kind reference
-    ∙ ap (λ (k : ℕ). sent_unit (tick_numbered ticks tick) k (tick_of h reference)) idr
-    ∙ ap (λ (o : Option Tick). sent_unit o 2 (tick_of h reference)) there
+unit_of-before ticks h tick kind reference k other = ap (unit_or_empty ticks) (sent_frame-before h tick kind reference k other)
 
 abbrev datagram_by : StreamSettings → List Tick → ℕ → ℕ → List ℕ → List ℕ
 datagram_by settings ticks k tick unit = lone_datagram settings (k - 1) k (time_of (tick_numbered ticks tick)) unit
@@ -85,9 +84,10 @@ last_frame settings ticks h tick kind reference idr lone count =
     let Fits : List ℕ → Type 0 = FitsOnePacket settings in
     record {
       went_out = ap (λ (l : List (List ℕ)). slice_get l (k - 1)) more
-          ∙ slice_get-push (video_stream settings ticks h) (lone_datagram settings (frames h) k (time_of (tick_numbered ticks tick)) lone.tick.idr) (k - 1) (count ∙ sym place)
+          ∙ slice_get-push (video_stream settings ticks h) (lone_datagram settings (frames h) k (time_of (tick_numbered ticks tick)) lone.tick.idr)
+          (k - 1) (count ∙ sym place)
           ∙ ap (λ (n : ℕ). Some (lone_datagram settings n k (time_of (tick_numbered ticks tick)) lone.tick.idr)) (sym place)
-          ∙ ap (λ (n : ℕ). Some (datagram_by settings ticks k n lone.tick.idr)) (sym (tick_of-last h tick kind reference))
+          ∙ ap (λ (n : ℕ). Some (datagram_by settings ticks k n lone.tick.idr)) (sym (tick_of-sent h tick kind reference k refl))
           ∙ ap (λ (u : List ℕ). Some (datagram_by settings ticks k (tick_of (Sent tick kind reference ∷ h) k) u)) (sym unit_is);
       fits = subst Fits (sym unit_is) lone.fits;
     }
@@ -103,9 +103,10 @@ frame_before settings ticks h tick kind reference idr lone count k least most fr
     let Fits : List ℕ → Type 0 = FitsOnePacket settings in
     record {
       went_out = ap (λ (l : List (List ℕ)). slice_get l (k - 1)) more
-          ∙ slice_get-append_left (video_stream settings ticks h) (lone_datagram settings (frames h) (frames h + 1) (time_of (tick_numbered ticks tick)) lone.tick.idr ∷ []) (k - 1) (omega (arith, count))
+          ∙ slice_get-append_left (video_stream settings ticks h)
+          (lone_datagram settings (frames h) (frames h + 1) (time_of (tick_numbered ticks tick)) lone.tick.idr ∷ []) (k - 1) (omega (arith, count))
           ∙ frame.went_out
-          ∙ ap (λ (n : ℕ). Some (datagram_by settings ticks k n (unit_of ticks h k))) (sym (tick_of-before h tick kind reference k other))
+          ∙ ap (λ (n : ℕ). Some (datagram_by settings ticks k n (unit_of ticks h k))) (sym (tick_of-before h tick kind reference k most))
           ∙ ap (λ (u : List ℕ). Some (datagram_by settings ticks k (tick_of (Sent tick kind reference ∷ h) k) u)) (sym unit_is);
       fits = subst Fits (sym unit_is) frame.fits;
     }
@@ -134,8 +135,17 @@ lone_stream settings ticks [] lone = record { count = refl; each = λ k least mo
 lone_stream settings ticks (Sent tick kind reference ∷ h) lone =
     lone_stream-sent settings ticks h tick kind reference lone.1 lone.2 (lone_stream settings ticks h lone.0)
 lone_stream settings ticks (Invalid first last ∷ h) lone =
-    let before = lone_stream settings ticks h lone in record { count = before.count; each = λ k least most. let f = before.each k least most in record { went_out = f.went_out; fits = f.fits } }
+    let before = lone_stream settings ticks h lone in record {
+      count = before.count;
+      each = λ k least most. let f = before.each k least most in record { went_out = f.went_out; fits = f.fits };
+    }
 lone_stream settings ticks (IdrAsked ∷ h) lone =
-    let before = lone_stream settings ticks h lone in record { count = before.count; each = λ k least most. let f = before.each k least most in record { went_out = f.went_out; fits = f.fits } }
+    let before = lone_stream settings ticks h lone in record {
+      count = before.count;
+      each = λ k least most. let f = before.each k least most in record { went_out = f.went_out; fits = f.fits };
+    }
 lone_stream settings ticks (Ended first last ∷ h) lone =
-    let before = lone_stream settings ticks h lone in record { count = before.count; each = λ k least most. let f = before.each k least most in record { went_out = f.went_out; fits = f.fits } }
+    let before = lone_stream settings ticks h lone in record {
+      count = before.count;
+      each = λ k least most. let f = before.each k least most in record { went_out = f.went_out; fits = f.fits };
+    }

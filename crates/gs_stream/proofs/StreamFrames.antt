@@ -1,25 +1,25 @@
 -- Each datagram of a host's history is of one frame, and what is received of it is among what is received of that
 -- frame.
-use Rattle.std.proofs.Common.{◌≡◌, ◌≤◌, ◌+◌, ◌-◌, ◌*◌, ℕ, suc, Bool, List, [], ◌∷◌, length, drop, map, Option, Some, None, refl, sym, ap, subst, arith}
-use Rattle.std.specs.Prelude.{if◌then◌else◌}
+use Rattle.std.proofs.Common.{◌≡◌, ◌≤◌, ◌+◌, ℕ, suc, List, [], ◌∷◌, length, map, Option, Some, None, refl, sym, ap, subst, ◌∙◌, arith}
+use Rattle.std.specs.Prelude.{◌==◌}
 use Rattle.std.specs.List.{All, Contains, filter_map, cons_option}
-use Rattle.std.proofs.lemmas.Bool.{eq-eqb, ne_eqb}
+use Rattle.std.proofs.lemmas.Bool.{cond-true, cond-false, eq-eqb, ne_eqb}
 use Rattle.std.proofs.lemmas.List.Elements.{All-nil, All-cons, All-head, All-tail, All-append, All-weaker, All-contains, All-contains_itself}
 use Rattle.gs_rtp.specs.Stream.{StreamSettings}
 use Rattle.gs_tape.specs.Tick.{Tick}
 use Rattle.gs_refs.specs.declared.entry.Entry.{Entry}
 use Rattle.gs_refs.specs.declared.entry.Entry.TheVariants.{Sent, Invalid, IdrAsked, Ended}
-use Rattle.gs_refs.specs.History.{frames, tick_of}
-use Rattle.gs_frames.specs.Image.{frame_image}
-use Rattle.gs_frames.specs.Plan.{BlockPlan}
-use Rattle.gs_frames.specs.Datagrams.{payload_of, Place, block_shards, plan_of, frame_datagrams}
-use Rattle.gs_frames.specs.Received.{Received, received, taken}
-use Rattle.gs_frames.specs.FrameLaws.{shard_received, shards_received, blocks_received, frame_received}
+use Rattle.gs_refs.specs.History.{frames, sent_frame}
+use Rattle.gs_refs.proofs.Lookups.{sent_behind, sent_frame-sent, sent_frame-before}
+use Rattle.gs_frames.specs.Client.{ClientSettings, Arrival, Datagram, Reset}
+use Rattle.gs_frames.specs.Received.{Received, received, taken_one, taken}
 use Rattle.gs_frames.proofs.FramesReceived.{frame_is_received}
-use Rattle.gs_stream.specs.Video.{tick_numbered, time_of, sent_unit, unit_of, kind_of, sent_datagrams, video_stream}
+use Rattle.gs_frames.proofs.SentBlocks.{frame_shards-frame}
+use Rattle.gs_stream.specs.Video.{sent_datagrams, video_stream}
 use Rattle.gs_frames.specs.CompleteLaws.{ComesFrom}
+use Rattle.gs_stream.specs.Paired.{IsOfStream, AreOfHistory}
 use Rattle.gs_stream.specs.HandedLaws.{IsHostHistory}
-use Rattle.gs_stream.proofs.FrameStreams.{count_before, stream_of, received_of, IsOfSentFrame, IsReceivedOfSentFrame}
+use Rattle.gs_stream.proofs.FrameStreams.{count_before, datagrams_by, datagrams_of_frame, received_of, IsOfSentFrame, IsReceivedOfSentFrame, sent_out}
 use Rattle.gs_stream.proofs.SentFrames.{frame_is_sent}
 
 -- ---- lists
@@ -50,21 +50,26 @@ All-filter_map {X} {Y} g P (x ∷ xs) all =
 -- ---- the datagrams
 
 -- the frame that went out last
-stream_of-last : (settings : StreamSettings) (ticks : List Tick) (h : List Entry) (tick kind reference : ℕ)
-    → stream_of settings ticks (Sent tick kind reference ∷ h) (frames h + 1) ≡ sent_datagrams settings ticks h (length (video_stream settings ticks h)) tick kind reference
-stream_of-last settings ticks h tick kind reference =
+frame-last : (settings : StreamSettings) (ticks : List Tick) (h : List Entry) (tick kind reference : ℕ)
+    → datagrams_of_frame settings ticks (Sent tick kind reference ∷ h) (frames h + 1)
+    ≡ sent_datagrams settings ticks (length (video_stream settings ticks h)) (frames h + 1) (sent_behind h tick kind reference)
+frame-last settings ticks h tick kind reference =
+    let now = Sent tick kind reference ∷ h in
     let f = frames h + 1 in
-    ap (λ (b : Bool). frame_datagrams settings (if b then length (video_stream settings ticks h) else count_before settings ticks h f) f (if b then kind else kind_of h f)
-    (time_of (tick_numbered ticks (if b then tick else tick_of h f))) (if b then sent_unit (tick_numbered ticks tick) kind (tick_of h reference) else unit_of ticks h f))
-    (eq-eqb f f refl)
+    let count = cond-true (f == f) (length (video_stream settings ticks h)) (count_before settings ticks h f) (eq-eqb f f refl) in
+    ap (λ (n : ℕ). datagrams_by settings ticks f n (sent_frame now f)) count
+    ∙ ap (datagrams_by settings ticks f (length (video_stream settings ticks h))) (sent_frame-sent h tick kind reference f refl)
 
 -- the frames before it
-stream_of-before : (settings : StreamSettings) (ticks : List Tick) (h : List Entry) (tick kind reference f : ℕ) → f ≤ frames h
-    → stream_of settings ticks (Sent tick kind reference ∷ h) f ≡ stream_of settings ticks h f
-stream_of-before settings ticks h tick kind reference f before =
-    ap (λ (b : Bool). frame_datagrams settings (if b then length (video_stream settings ticks h) else count_before settings ticks h f) f (if b then kind else kind_of h f)
-    (time_of (tick_numbered ticks (if b then tick else tick_of h f))) (if b then sent_unit (tick_numbered ticks tick) kind (tick_of h reference) else unit_of ticks h f))
-    (ne_eqb f (frames h + 1) (λ e. absurd (omega (arith, e))))
+frame-before : (settings : StreamSettings) (ticks : List Tick) (h : List Entry) (tick kind reference f : ℕ) → f ≤ frames h
+    → datagrams_of_frame settings ticks (Sent tick kind reference ∷ h) f ≡ datagrams_of_frame settings ticks h f
+frame-before settings ticks h tick kind reference f before =
+    let now = Sent tick kind reference ∷ h in
+    let other : f ≡ frames h + 1 → ⊥ = λ e. absurd (omega (arith, e)) in
+    let count =
+    cond-false (f == frames h + 1) (length (video_stream settings ticks h)) (count_before settings ticks h f) (ne_eqb f (frames h + 1) other) in
+    ap (λ (n : ℕ). datagrams_by settings ticks f n (sent_frame now f)) count
+    ∙ ap (datagrams_by settings ticks f (count_before settings ticks h f)) (sent_frame-before h tick kind reference f other)
 
 -- a datagram of a frame stays one when one more frame goes out
 of_frame-before : (settings : StreamSettings) (ticks : List Tick) (h : List Entry) (tick kind reference : ℕ) (datagram : List ℕ)
@@ -76,12 +81,12 @@ of_frame-before settings ticks h tick kind reference datagram is =
       frame = is.frame;
       least = is.least;
       greatest = omega arith;
-      among = subst Among (sym (stream_of-before settings ticks h tick kind reference is.frame greatest)) is.among;
+      among = subst Among (sym (frame-before settings ticks h tick kind reference is.frame greatest)) is.among;
     }
 
 -- a datagram of the frame that went out last
 of_frame-last : (settings : StreamSettings) (ticks : List Tick) (h : List Entry) (tick kind reference : ℕ) (datagram : List ℕ)
-    → Contains (sent_datagrams settings ticks h (length (video_stream settings ticks h)) tick kind reference) datagram
+    → Contains (sent_datagrams settings ticks (length (video_stream settings ticks h)) (frames h + 1) (sent_behind h tick kind reference)) datagram
     → IsOfSentFrame settings ticks (Sent tick kind reference ∷ h) datagram
 of_frame-last settings ticks h tick kind reference datagram among =
     let Among : List (List ℕ) → Type 0 = λ all. Contains all datagram in
@@ -89,95 +94,76 @@ of_frame-last settings ticks h tick kind reference datagram among =
       frame = frames h + 1;
       least = omega arith;
       greatest = omega arith;
-      among = subst Among (sym (stream_of-last settings ticks h tick kind reference)) among;
+      among = subst Among (sym (frame-last settings ticks h tick kind reference)) among;
     }
 
 -- each datagram of a history is of a frame that was sent
-pub datagrams_are_of_frames : (settings : StreamSettings) (ticks : List Tick) (h : List Entry) → All (IsOfSentFrame settings ticks h) (video_stream settings ticks h)
+pub datagrams_are_of_frames : (settings : StreamSettings) (ticks : List Tick) (h : List Entry)
+    → All (IsOfSentFrame settings ticks h) (video_stream settings ticks h)
 unfolding video_stream
 datagrams_are_of_frames settings ticks [] = All-nil (IsOfSentFrame settings ticks [])
 datagrams_are_of_frames settings ticks (Sent tick kind reference ∷ h) =
     let now = Sent tick kind reference ∷ h in
     let before = video_stream settings ticks h in
-    let more = sent_datagrams settings ticks h (length before) tick kind reference in
+    let more = sent_datagrams settings ticks (length before) (frames h + 1) (sent_behind h tick kind reference) in
     All-append (IsOfSentFrame settings ticks now) before more
-    (All-weaker (IsOfSentFrame settings ticks h) (IsOfSentFrame settings ticks now) (of_frame-before settings ticks h tick kind reference) before (datagrams_are_of_frames settings ticks h))
+    (All-weaker (IsOfSentFrame settings ticks h) (IsOfSentFrame settings ticks now) (of_frame-before settings ticks h tick kind reference) before
+    (datagrams_are_of_frames settings ticks h))
     (All-weaker (Contains more) (IsOfSentFrame settings ticks now) (of_frame-last settings ticks h tick kind reference) more (All-contains_itself more))
 datagrams_are_of_frames settings ticks (Invalid first last ∷ h) =
     All-weaker (IsOfSentFrame settings ticks h) (IsOfSentFrame settings ticks (Invalid first last ∷ h))
-    (λ d is. record { frame = is.frame; least = is.least; greatest = is.greatest; among = is.among }) (video_stream settings ticks h) (datagrams_are_of_frames settings ticks h)
+    (λ d is. record { frame = is.frame; least = is.least; greatest = is.greatest; among = is.among })
+    (video_stream settings ticks h) (datagrams_are_of_frames settings ticks h)
 datagrams_are_of_frames settings ticks (IdrAsked ∷ h) =
     All-weaker (IsOfSentFrame settings ticks h) (IsOfSentFrame settings ticks (IdrAsked ∷ h))
-    (λ d is. record { frame = is.frame; least = is.least; greatest = is.greatest; among = is.among }) (video_stream settings ticks h) (datagrams_are_of_frames settings ticks h)
+    (λ d is. record { frame = is.frame; least = is.least; greatest = is.greatest; among = is.among })
+    (video_stream settings ticks h) (datagrams_are_of_frames settings ticks h)
 datagrams_are_of_frames settings ticks (Ended first last ∷ h) =
     All-weaker (IsOfSentFrame settings ticks h) (IsOfSentFrame settings ticks (Ended first last ∷ h))
-    (λ d is. record { frame = is.frame; least = is.least; greatest = is.greatest; among = is.among }) (video_stream settings ticks h) (datagrams_are_of_frames settings ticks h)
+    (λ d is. record { frame = is.frame; least = is.least; greatest = is.greatest; among = is.among })
+    (video_stream settings ticks h) (datagrams_are_of_frames settings ticks h)
 
 -- ---- what is received of them
-
--- each shard of a block has the frame's number
-shards_say_frame : (settings : StreamSettings) (place : Place) (plan : BlockPlan) (count index : ℕ) (shards : List (List ℕ))
-    → All (λ r. r.head.frame ≡ place.frame) (shards_received settings place plan count index shards)
-shards_say_frame settings place plan count index [] = All-nil (λ (r : Received). r.head.frame ≡ place.frame)
-shards_say_frame settings place plan count index (shard ∷ shards) =
-    All-cons (λ (r : Received). r.head.frame ≡ place.frame) (shard_received settings place plan count index shard) (shards_received settings place plan (count + 1) (index + 1) shards)
-    refl (shards_say_frame settings place plan (count + 1) (index + 1) shards)
-
--- of block after block
-blocks_say_frame : (settings : StreamSettings) (frame time last block count : ℕ) (plans : List BlockPlan) (image : List ℕ)
-    → All (λ r. r.head.frame ≡ frame) (blocks_received settings frame time last block count plans image)
-blocks_say_frame settings frame time last block count [] image = All-nil (λ (r : Received). r.head.frame ≡ frame)
-blocks_say_frame settings frame time last block count (plan ∷ plans) image =
-    let place : Place = record { frame = frame; time = time; block = block; last_block = last } in
-    let more = count + plan.data_shards + plan.parity_shards in
-    let behind = drop (plan.data_shards * payload_of settings) image in
-    All-append (λ (r : Received). r.head.frame ≡ frame) (shards_received settings place plan count 0 (block_shards settings plan count image))
-    (blocks_received settings frame time last (block + 1) more plans behind)
-    (shards_say_frame settings place plan count 0 (block_shards settings plan count image))
-    (blocks_say_frame settings frame time last (block + 1) more plans behind)
-
--- of a frame
-pub received_say_frame : (settings : StreamSettings) (count frame kind time : ℕ) (unit : List ℕ)
-    → All (λ r. r.head.frame ≡ frame) (frame_received settings count frame kind time unit)
-unfolding frame_received
-received_say_frame settings count frame kind time unit =
-    blocks_say_frame settings frame time (length (plan_of settings unit) - 1) 0 count (plan_of settings unit) (frame_image kind unit (payload_of settings))
 
 -- what is received of a datagram of a frame
 received_of_frame : (settings : StreamSettings) (ticks : List Tick) (h : List Entry) (datagram : List ℕ) (r : Received) → IsHostHistory settings ticks h
     → IsOfSentFrame settings ticks h datagram → received settings datagram ≡ Some r → IsReceivedOfSentFrame settings ticks h r
 received_of_frame settings ticks h datagram r host is came =
     let f = is.frame in
-    let count = count_before settings ticks h f in
-    let time = time_of (tick_numbered ticks (tick_of h f)) in
     let parts = received_of settings ticks h f in
     let Answered : List ℕ → Type 0 = λ d. (y : Received) × (received settings d ≡ Some y) × Contains parts y in
     let answer =
-    All-contains Answered (stream_of settings ticks h f) datagram
-    (contained_answers (received settings) (stream_of settings ticks h f) parts
-    (frame_is_received settings count f (kind_of h f) time (unit_of ticks h f) (frame_is_sent settings ticks h f host is.least is.greatest)))
+    All-contains Answered (datagrams_of_frame settings ticks h f) datagram
+    (contained_answers (received settings) (datagrams_of_frame settings ticks h f) parts
+    (frame_is_received settings (sent_out settings ticks h f) (frame_is_sent settings ticks h f host is.least is.greatest)))
     is.among in
     let same : answer.0 ≡ r = cc (answer.1, came) in
     let Among : Received → Type 0 = Contains parts in
     let among : Contains parts r = subst Among same answer.2 in
     let says : r.head.frame ≡ f =
-    All-contains (λ (y : Received). y.head.frame ≡ f) parts r (received_say_frame settings count f (kind_of h f) time (unit_of ticks h f)) among in
+    All-contains (λ (y : Received). y.head.frame ≡ f) parts r (frame_shards-frame settings (sent_out settings ticks h f)) among in
     let Said : ℕ → Type 0 = λ n. (1 ≤ n) × (n ≤ frames h) × Contains (received_of settings ticks h n) r in
     let said = subst Said (sym says) (is.least, is.greatest, among) in
     record { least = said.0; greatest = said.1; among = said.2 }
 
+-- what is taken of one of them
+received_of_arrival : (client : ClientSettings) (ticks : List Tick) (h : List Entry) (arrival : Arrival) (r : Received)
+    → IsHostHistory client.stream ticks h → IsOfStream (video_stream client.stream ticks h) arrival → taken_one client arrival ≡ Some r
+    → IsReceivedOfSentFrame client.stream ticks h r
+received_of_arrival client ticks h (Datagram bytes) r host among e =
+    let all = datagrams_are_of_frames client.stream ticks h in
+    received_of_frame client.stream ticks h bytes r host
+    (All-contains (IsOfSentFrame client.stream ticks h) (video_stream client.stream ticks h) bytes all among) e
+received_of_arrival client ticks h Reset r host among e = absurd (cc e)
+
 -- Whatever datagrams of a host's history came, in whatever order and how often, all that is taken of them is
 -- of frames that were sent.
-pub taken_were_sent : (settings : StreamSettings) (ticks : List Tick) (h : List Entry) (came : List (List ℕ)) → IsHostHistory settings ticks h
-    → All (Contains (video_stream settings ticks h)) came → All (IsReceivedOfSentFrame settings ticks h) (taken settings came)
-taken_were_sent settings ticks h came host sent =
-    let Answered : List ℕ → Type 0 = λ d. (r : Received) → received settings d ≡ Some r → IsReceivedOfSentFrame settings ticks h r in
-    All-filter_map (received settings) (IsReceivedOfSentFrame settings ticks h) came
-    (All-weaker (Contains (video_stream settings ticks h)) Answered
-    (λ d among r e.
-    received_of_frame settings ticks h d r host
-    (All-contains (IsOfSentFrame settings ticks h) (video_stream settings ticks h) d (datagrams_are_of_frames settings ticks h) among) e)
-    came sent)
+pub taken_were_sent : (client : ClientSettings) (ticks : List Tick) (h : List Entry) (came : List Arrival) → IsHostHistory client.stream ticks h
+    → AreOfHistory client ticks h came → All (IsReceivedOfSentFrame client.stream ticks h) (taken client came)
+taken_were_sent client ticks h came host sent =
+    let Answered : Arrival → Type 0 = λ a. (r : Received) → taken_one client a ≡ Some r → IsReceivedOfSentFrame client.stream ticks h r in
+    All-filter_map (taken_one client) (IsReceivedOfSentFrame client.stream ticks h) came
+    (All-weaker (IsOfStream (video_stream client.stream ticks h)) Answered (λ a among r e. received_of_arrival client ticks h a r host among e) came sent)
 
 -- So what is taken of one frame is among what is received of all of its datagrams.
 pub frames_come_from : (settings : StreamSettings) (ticks : List Tick) (h : List Entry) (f : ℕ) (rs : List Received)

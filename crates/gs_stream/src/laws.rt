@@ -4,7 +4,12 @@ ghost use Rattle.std.specs.Prelude.{List};
 ghost use Rattle.gs_rtp.specs.Stream.{StreamSettings};
 ghost use Rattle.gs_tape.specs.Tick.{Tick};
 ghost use Rattle.gs_stream.specs.Audio.{audio_stream, audio_units};
-ghost use Rattle.gs_stream.specs.HandedLaws.{HandedFramesWereSent, FramesThatCameAreComplete, ReEntryFramesThatCameAreHanded};
+ghost use Rattle.gs_stream.specs.HandedLaws.{
+  HandedFramesWereSent,
+  FramesThatCameAreComplete,
+  FramesThatCameAreHanded,
+  IdrFramesThatCameAreHanded,
+};
 ghost use Rattle.gs_stream.specs.Paired.{invalid_ranges};
 ghost use Rattle.gs_stream.specs.StreamLaws.{OnlyGrows, LoneFramesAreADatagramEach};
 ghost use Rattle.gs_stream.specs.Video.{video_stream};
@@ -24,16 +29,19 @@ pub fn lone_streams()
     ensures { LoneFramesAreADatagramEach }
 {}
 
-/// A law: however the datagrams of a history that a host may have were lost, repeated or reordered, each
-/// frame that its client is handed was sent, with its kind and, byte for byte, its captured unit.
+/// A law: however the datagrams of a history that a host may have were lost, repeated or reordered, and
+/// whenever the decoder was reset, each frame that its client is handed was sent, with its kind and, byte for
+/// byte, its captured unit.
 pub fn handed_frames_were_sent()
     ensures { HandedFramesWereSent }
 {}
 
 /// Laws: whichever datagrams of a history were lost and in whatever order the others came, a frame of whose
-/// blocks enough distinct datagrams came before any of a greater frame is complete from then on and holds what
-/// was sent; and where it is a re-entry frame, it is handed.
+/// blocks enough distinct datagrams came before any by which it is left is complete from then on and holds what
+/// was sent. Once it is settled it is handed, where it isn't barred and is a re-entry frame or follows a handed
+/// one; an IDR frame always.
 pub fn frames_that_came_are_complete()
     ensures complete { FramesThatCameAreComplete }
-    ensures handed { ReEntryFramesThatCameAreHanded }
+    ensures handed { FramesThatCameAreHanded }
+    ensures idr { IdrFramesThatCameAreHanded }
 {}
