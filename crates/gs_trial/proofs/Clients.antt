@@ -4,7 +4,8 @@ use Rattle.std.proofs.lemmas.List.{length_push}
 use Rattle.std.proofs.lemmas.List.Elements.{All-nil}
 use Rattle.std.specs.Int.{from_bool}
 use Rattle.gs_rtp.specs.Stream.{StreamSettings}
-use Rattle.gs_frames.specs.Handed.{Range, range_or_none, handed, handed_through, asks, asks_of}
+use Rattle.gs_frames.specs.declared.range.Range.{Range}
+use Rattle.gs_frames.specs.Narrow.{narrow_handed, narrow_handed_through, range_or_none, narrow_asks, narrow_asks_of}
 use Rattle.gs_frames.specs.Lone.{IsLone}
 use Rattle.gs_frames.specs.LoneLaws.{IsNewDatagram, IsPassedDatagram}
 use Rattle.gs_frames.proofs.LoneBytes.{lone_datagram_handed, lone_datagram_passed}
@@ -13,7 +14,7 @@ use Rattle.gs_trial.specs.Output.{ranges_of}
 use Rattle.gs_trial.specs.Standing.{IsDatagramOf, ClientStandsFor, IsPassed, IsHanded}
 
 pub nothing_came : (s : StreamSettings) (client : Client) → client.greatest ≡ 0 → client.handed ≡ 0 → client.asks ≡ 0 → ClientStandsFor s client []
-unfolding handed handed_through asks asks_of
+unfolding narrow_handed narrow_handed_through narrow_asks narrow_asks_of
 nothing_came s client greatest handed asks = record {
   greatest_frame = greatest;
   handed_count = handed;
@@ -50,13 +51,13 @@ pub new_frame : (s : StreamSettings) (old new : Client) (datagram : List ℕ) (c
 new_frame s old new datagram came frame lost unit before sent above lost_is greatest one_more asked =
     let P : List ℕ → Type 0 = λ d. IsNewDatagram s d came frame unit in
     let is_new = subst P (sym sent.bytes) (lone_datagram_handed s came sent.count frame sent.time unit before.lone sent.fits sent.frame_greatest (omega (arith, before.greatest_frame))) in
-    let asked_after : asks s (datagram ∷ came) ≡ asks s came ++ ranges_of lost =
-    is_new.asked_after ∙ ap (λ (n : ℕ). asks s came ++ range_or_none (n + 1) (frame - 1)) (sym before.greatest_frame) ∙ ap (λ (l : List Range). asks s came ++ l) (sym lost_is) in
+    let asked_after : narrow_asks s (datagram ∷ came) ≡ narrow_asks s came ++ ranges_of lost =
+    is_new.asked_after ∙ ap (λ (n : ℕ). narrow_asks s came ++ range_or_none (n + 1) (frame - 1)) (sym before.greatest_frame) ∙ ap (λ (l : List Range). narrow_asks s came ++ l) (sym lost_is) in
     record {
       stands = record {
         greatest_frame = greatest ∙ sym is_new.greatest_after;
-        handed_count = one_more ∙ ap (λ (n : ℕ). n + 1) before.handed_count ∙ sym (length_push (handed s came) (record { frame = frame; kind = 2; unit = unit })) ∙ ap length (sym is_new.handed_after);
-        asks_count = omega (arith, asked, before.asks_count, length_ranges lost, length-append (asks s came) (ranges_of lost), ap length asked_after);
+        handed_count = one_more ∙ ap (λ (n : ℕ). n + 1) before.handed_count ∙ sym (length_push (narrow_handed s came) (record { frame = frame; kind = 2; unit = unit })) ∙ ap length (sym is_new.handed_after);
+        asks_count = omega (arith, asked, before.asks_count, length_ranges lost, length-append (narrow_asks s came) (ranges_of lost), ap length asked_after);
         lone = is_new.lone_after;
       };
       handed_after = is_new.handed_after;

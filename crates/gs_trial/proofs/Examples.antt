@@ -8,10 +8,11 @@ use Rattle.gs_refs.specs.declared.entry.Entry.TheVariants.{Sent, Invalid, Ended}
 use Rattle.gs_tape.specs.Reading.{read, text_at, head_at, unit_at, deltas_at, audio_at, tick_at, ticks_at}
 use Rattle.gs_frames.specs.Image.{frame_image, frame_of}
 use Rattle.gs_frames.specs.Plan.{fec_plan}
-use Rattle.gs_frames.specs.Datagrams.{frame_datagrams}
-use Rattle.gs_frames.specs.Received.{received, counting}
+use Rattle.gs_frames.specs.Datagrams.{frame_shards, frame_datagrams}
+use Rattle.gs_frames.specs.Received.{received}
+use Rattle.gs_frames.specs.Verdict.{counting}
 use Rattle.gs_frames.specs.Complete.{complete}
-use Rattle.gs_frames.specs.Handed.{handed, asks, handed_through, is_handed, asks_of}
+use Rattle.gs_frames.specs.Narrow.{narrow_handed, narrow_handed_through, is_narrow_handed, narrow_asks, narrow_asks_of}
 use Rattle.gs_stream.specs.Video.{video_stream}
 use Rattle.gs_trial.specs.declared.step.Step.{Step}
 use Rattle.gs_trial.specs.declared.step.Step.TheVariants.{Session, Cap, Send, Video}
@@ -30,7 +31,7 @@ unfolding lines_of digits
 spelled = refl
 
 smallest : text_of small steps ≡ codes "sent 1 1 2 1 0\nhand 1 1 2 3\nABC\ntotal 1 1 1 0 0 0\nok\n"
-unfolding text_from step_text after read text_at head_at unit_at deltas_at audio_at tick_at ticks_at frame_datagrams fec_plan frame_image handed handed_through is_handed received counting complete frame_of asks asks_of video_stream digits
+unfolding text_from step_text after read text_at head_at unit_at deltas_at audio_at tick_at ticks_at frame_datagrams frame_shards fec_plan frame_image narrow_handed narrow_handed_through is_narrow_handed received counting complete frame_of narrow_asks narrow_asks_of video_stream digits
 smallest = refl
 
 -- Moving on: two frames of two packets each; once the second frame begins, what is left of the first is old.
@@ -45,7 +46,7 @@ passing = Session 1024 0 0 ∷ Cap ∷ Send 1 ∷ Cap ∷ Send 1 ∷ Video 1 1 �
 
 moved_on : text_of two passing ≡
     codes "sent 1 1 2 1 0\nsent 1 2 2 2 0\nask 1 1 1\nhand 1 2 2 1500\n" ++ replicate 1500 66 ++ codes "\ntotal 1 2 1 1 0 0\nok\n"
-unfolding text_from step_text after read text_at head_at unit_at deltas_at audio_at tick_at ticks_at frame_datagrams fec_plan frame_image handed handed_through is_handed received counting complete frame_of asks asks_of video_stream digits
+unfolding text_from step_text after read text_at head_at unit_at deltas_at audio_at tick_at ticks_at frame_datagrams frame_shards fec_plan frame_image narrow_handed narrow_handed_through is_narrow_handed received counting complete frame_of narrow_asks narrow_asks_of video_stream digits
 moved_on = refl
 
 -- an empty capture file and an empty schedule
@@ -82,7 +83,7 @@ unfolding step_text digits
 re_entry_sent = refl
 
 re_entry_handed : step_text capture (after capture (behind_four (Invalid 2 2 ∷ [])) (Send 1)) (Video 1 5) ≡ codes "hand 1 5 5 4\nABCD\n"
-unfolding silent step_text after frame_datagrams fec_plan frame_image handed handed_through is_handed received counting complete frame_of asks asks_of video_stream digits
+unfolding silent step_text after frame_datagrams frame_shards fec_plan frame_image narrow_handed narrow_handed_through is_narrow_handed received counting complete frame_of narrow_asks narrow_asks_of video_stream digits
 re_entry_handed = refl
 
 -- a host that was told a bad range sends nothing more

@@ -4,20 +4,19 @@ use Rattle.std.proofs.lemmas.List.{drop-replicate, append_assoc, append-nil, tak
 use borrow.Rule.Slice.PartMut.{put_mid}
 use Rattle.std.proofs.Math.Nat.{one-mul}
 use Rattle.gs_rtp.specs.Stream.{StreamSettings, numbers_of}
-use Rattle.gs_tape.specs.Tick.{Tick}
+use Rattle.gs_tape.specs.Tick.{Tick, tick_numbered}
 use Rattle.gs_refs.specs.declared.entry.Entry.{Entry}
 use Rattle.gs_refs.specs.declared.entry.Entry.TheVariants.{Sent, Invalid, IdrAsked, Ended}
-use Rattle.gs_refs.specs.History.{frames, last_tick, tick_of}
+use Rattle.gs_refs.specs.History.{frames, last_tick}
+use Rattle.gs_refs.proofs.Lookups.{tick_of-sent}
 use Rattle.std.specs.List.{AllByRecursion}
-use Rattle.std.specs.Prelude.{◌==◌}
-use Rattle.std.proofs.lemmas.Bool.{cond-true, eq-eqb}
 use Rattle.gs_frames.specs.Image.{header_length, packets, last_length, image_header, frame_image}
 use Rattle.gs_rtp.specs.declared.video.VideoHead.{VideoHead}
 use Rattle.gs_rtp.specs.Video.{video_header}
 use Rattle.gs_frames.specs.Lone.{lone_head, lone_datagram}
 use Rattle.gs_frames.proofs.Images.{IsParted, last_length-is, packets-is}
 use Rattle.gs_frames.proofs.OnePacket.{fits_one_packet}
-use Rattle.gs_stream.specs.Video.{video_stream, tick_numbered, time_of}
+use Rattle.gs_stream.specs.Video.{video_stream, time_of}
 use Rattle.gs_stream.specs.StreamLaws.{IsLoneTick, AreLoneFrames}
 use Rattle.gs_stream.proofs.LoneStream.{stream-sent, lone_stream}
 use Rattle.gs_trial.specs.declared.host.Host.{Host}
@@ -55,7 +54,7 @@ datagram_written packet header unit zeros room zeros_are =
 -- ---- one more frame
 
 pub last_tick-sent : (h : List Entry) (tick kind reference : ℕ) → last_tick (Sent tick kind reference ∷ h) ≡ tick
-last_tick-sent h tick kind reference = cond-true (frames h + 1 == frames h + 1) tick (tick_of h (frames h + 1)) (eq-eqb (frames h + 1) (frames h + 1) refl)
+last_tick-sent h tick kind reference = tick_of-sent h tick kind reference (frames h + 1) refl
 
 pub are_lone : (settings : StreamSettings) (ticks : List Tick) (h : List Entry) → AllByRecursion (IsIdrEntry settings ticks) h → AreLoneFrames settings ticks h
 are_lone settings ticks [] all = tt

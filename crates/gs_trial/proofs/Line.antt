@@ -1,15 +1,11 @@
 -- Words parted by a space, and the numbers among them.
-use Rattle.std.specs.Cmp.Lexicographic.{pointwise}
-use Rattle.std.proofs.lemmas.Bool.{eq-eqb}
 use Rattle.std.proofs.lemmas.List.{append-nil}
-use Rattle.std.proofs.Common.{◌==◌, map, length, Bool, true, false, nat_eq, subst, Option, IfSome, Some, None, Result, Ok, IfNone, ℕ, ◌≡◌, ◌≢◌, ◌<◌, ◌^◌, List, [], ◌∷◌, ◌++◌, refl, sym, ap, ◌∙◌, arith}
+use Rattle.std.proofs.Common.{◌==◌, map, length, false, Option, IfSome, Some, None, IfNone, ℕ, ◌≡◌, ◌≢◌, ◌<◌, ◌^◌, List, [], ◌∷◌, ◌++◌, refl, sym, ap, ◌∙◌, arith}
 use Rattle.std.specs.Prelude.{decimal}
 use Rattle.std.specs.List.{AllByRecursion}
-use Rattle.std.specs.Str.Parse.{AllDigits, ParsesUnsigned}
+use Rattle.std.specs.Str.Parse.{AllDigits}
 use Rattle.std.proofs.lemmas.Str.Parse.{tells_digits, numerals_by_value, digit_from_value}
-use Rattle.std.proofs.lemmas.Fmt.{digits_decimal, parse-decimal, IsAscii-decimal}
-use Rattle.std.proofs.lemmas.Str.{IsUtf8-from_ascii}
-use Rattle.std.specs.Str.{IsUtf8}
+use Rattle.std.proofs.lemmas.Fmt.{digits_decimal}
 use Rattle.gs_trial.specs.Schedule.{Lacks, IsStep, line_of, lines_of, onto_line}
 use Rattle.gs_trial.specs.declared.step.Step.{Step}
 
@@ -42,24 +38,6 @@ decimal_no_space n h = digits_no_space (decimal n) (digits_decimal (numerals_by_
 pub if_none : {A : Type 0} (P : Type 0) (o : Option A) → P → IfNone o P
 if_none P None p = p
 if_none P (Some x) p = tt
-
-pointwise_refl : (b : List ℕ) → pointwise nat_eq b b ≡ true
-pointwise_refl [] = refl
-pointwise_refl (x ∷ xs) = rw (eq-eqb x x refl) (pointwise_refl xs)
-
--- texts that a comparison tells apart are apart
-pub differ : (a b : List ℕ) (r : Bool) → r ≡ pointwise nat_eq a b → r ≡ false → a ≡ b → ⊥
-differ a b r f apart e =
-    let t : pointwise nat_eq b b ≡ true = pointwise_refl b in
-    let g : r ≡ pointwise nat_eq b b = subst (λ x. r ≡ pointwise nat_eq x b) e f in
-    cc
-
--- a number that spells the word is read from it
-pub decimal_parses : {E : Type 0} (n : ℕ) (word : List ℕ) (r : Result ℕ E) → n < 2 ^ 32 → word ≡ decimal n → ParsesUnsigned 32 10 word r → r ≡ Ok n
-decimal_parses n word r h e p = parse-decimal 32 n word r h (omega arith) e p
-
-pub decimal_ascii : (n : ℕ) (word : List ℕ) → n < 2 ^ 32 → word ≡ decimal n → IsUtf8 word
-decimal_ascii n word h e = rw e (IsUtf8-from_ascii _ (IsAscii-decimal n (omega arith)))
 
 -- a step's line may be read in another spelling of itself
 pub step_of_line : (o : Option Step) (line text : List ℕ) → line ≡ text

@@ -5,7 +5,7 @@ use Rattle.byteorder.specs.Endian.{little_from}
 use Rattle.byteorder.specs.Numbers.{little_number-reads_back}
 use Rattle.gs_rtp.specs.Stream.{StreamSettings}
 use Rattle.gs_frames.specs.Image.{header_length, last_length, frame_image}
-use Rattle.gs_frames.specs.Datagrams.{payload_of}
+use Rattle.gs_frames.specs.Shards.{payload_of}
 use Rattle.gs_frames.specs.Lone.{FitsOnePacket, lone_datagram}
 use Rattle.gs_frames.proofs.Images.{IsParted, last_length-is}
 use Rattle.gs_frames.proofs.OnePacket.{length-lone_datagram}

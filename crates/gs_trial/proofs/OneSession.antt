@@ -1,17 +1,16 @@
 -- A run of one session whose frames are IDR frames of one packet: what a turn of the host leaves.
-use Rattle.std.proofs.Common.{◌≡◌, ◌<◌, ◌≤◌, ◌-◌, ℕ, zero, suc, List, [], ◌∷◌, length, Option, Some, refl, ap, arith}
+use Rattle.std.proofs.Common.{◌≡◌, ◌<◌, ◌≤◌, ◌-◌, ℕ, zero, suc, List, [], ◌∷◌, length, Option, Some, refl, ap, ◌∙◌, arith}
 use Rattle.std.specs.List.{AllByRecursion, slice_get}
-use Rattle.gs_tape.specs.Tick.{Tick}
+use Rattle.gs_tape.specs.Tick.{Tick, tick_numbered}
 use Rattle.gs_refs.specs.declared.entry.Entry.{Entry}
 use Rattle.gs_refs.specs.declared.entry.Entry.TheVariants.{Sent}
 use Rattle.gs_refs.specs.History.{last_tick}
 use Rattle.gs_frames.proofs.OnePacket.{fits_one_packet}
-use Rattle.gs_stream.specs.Video.{tick_numbered}
 use Rattle.gs_trial.specs.declared.step.Step.TheVariants as step
 use Rattle.gs_trial.specs.Run.{Tape, Session, State, with_entry, after}
 use Rattle.gs_trial.specs.Forms.{IsSmallTick}
 use Rattle.gs_trial.specs.Standing.{IsBare, IsIdrEntry}
-use Rattle.gs_trial.proofs.Turns.{has_not_ended, turn-none, turn-sent}
+use Rattle.gs_trial.proofs.Turns.{has_not_ended, turn-none, turn-sent, tick_numbered-is}
 
 -- ---- the tick of a number
 
@@ -57,7 +56,7 @@ pub sent_state : (tape : Tape) (captured : ℕ) (session : Session) → AllByRec
 unfolding after
 sent_state tape captured session small bare idr within newer =
     let newest = tick_at_place tape.ticks (captured - 1) small (omega arith) in
-    let there : tick_numbered tape.ticks captured ≡ Some newest.tick = newest.there in
+    let there : tick_numbered tape.ticks captured ≡ Some newest.tick = tick_numbered-is tape.ticks captured (omega arith) ∙ newest.there in
     let goes_on = has_not_ended session.settings tape.ticks session.history idr in
     record {
       state_after = ap (λ (e : Option Entry). state_of captured (with_entry session e))

@@ -1,12 +1,12 @@
 -- Every session of every run has a history that a host may have, and a client that is paired with it.
-use Rattle.std.proofs.Common.{◌≡◌, ◌⊎◌, ◌<◌, ◌≤◌, ◌^◌, ◌-◌, ℕ, zero, suc, true, not, ◌&&◌, List, [], ◌∷◌, ◌++◌, length, Option, Some, None, refl, sym, ap, subst, ◌∙◌, arith, inl, inr}
+use Rattle.std.proofs.Common.{◌≡◌, ◌⊎◌, ◌<◌, ◌≤◌, ◌^◌, ◌-◌, ℕ, zero, suc, true, not, ◌&&◌, List, [], ◌∷◌, ◌++◌, length, map, Option, Some, None, refl, sym, ap, subst, ◌∙◌, arith, inl, inr}
 use Rattle.std.specs.Prelude.{nat_le, nat_lt}
 use Rattle.std.specs.List.{All, AllByRecursion, Contains, slice_get}
 use Rattle.std.specs.Option.{IfSome}
 use Rattle.std.proofs.lemmas.Bool.{cond-true, cond-false, cases_Bool, leb-true, ltb-true, and_parts}
 use Rattle.std.proofs.lemmas.List.{append_assoc}
-use Rattle.std.proofs.lemmas.List.Elements.{All-nil, All-cons, All-contains_itself, Contains-append_left, recursion_from_All}
-use Rattle.gs_tape.specs.Tick.{Tick}
+use Rattle.std.proofs.lemmas.List.Elements.{All-nil, All-cons, All-weaker, All-contains_itself, Contains-append_left, recursion_from_All}
+use Rattle.gs_tape.specs.Tick.{Tick, tick_numbered}
 use Rattle.gs_tape.specs.Limits.{HoldsBytes, AreWithinLimits}
 use Rattle.gs_tape.specs.Reading.{most_audio, audio_duration}
 use Rattle.gs_tape.proofs.Ticks.{ticks_keep_limits, ticks_hold_bytes, audio_length_keeps}
@@ -14,12 +14,20 @@ use Rattle.gs_refs.specs.declared.entry.Entry.{Entry}
 use Rattle.gs_refs.specs.declared.entry.Entry.TheVariants.{Sent}
 use Rattle.gs_refs.specs.History.{last_tick, has_ended}
 use Rattle.gs_refs.specs.Choice.{choice}
-use Rattle.gs_frames.specs.Handed.{asks}
-use Rattle.gs_frames.proofs.HandedGrows.{asks_grow}
-use Rattle.gs_stream.specs.Video.{tick_numbered, video_stream}
+use Rattle.gs_frames.specs.declared.range.Range.{Range}
+use Rattle.gs_frames.specs.Client.{Arrival, Datagram, Reset, datagrams}
+use Rattle.gs_frames.specs.Handed.{Handed}
+use Rattle.gs_frames.specs.Asks.{as_list, asks, newly_asked}
+use Rattle.gs_frames.specs.Narrow.{narrow}
+use Rattle.gs_frames.proofs.AsksGrow.{arrival_asks}
+use Rattle.gs_frames.proofs.Narrowed.{narrow_is_client}
+use Rattle.gs_stream.specs.Video.{video_stream}
+use Rattle.gs_stream.specs.Paired.{IsOfStream, invalid_ranges}
+use Rattle.gs_stream.specs.HandedLaws.{IsSentFrame}
 use Rattle.gs_stream.proofs.Growth.{streams_only_grow}
 use Rattle.gs_stream.proofs.HandedSent.{handed_were_sent}
-use Rattle.gs_pair.proofs.Joined.{references_were_handed}
+use Rattle.gs_pair.specs.References.{ReferencesHeld}
+use Rattle.gs_pair.proofs.Joined.{references_without_resets}
 use Rattle.gs_trial.specs.declared.step.Step.{Step}
 use Rattle.gs_trial.specs.declared.step.Step.TheVariants as step
 use Rattle.gs_trial.specs.Run.{Tape, Session, State, start, tape_of, most_sessions, session_numbered, replaced, opened, is_taken, turn, stream_of, with_entry, with_datagram, sent_by, given, put_back, after}
@@ -115,11 +123,16 @@ opened_is_paired tape state packet percentage minimum capture taken =
         bytes = capture.bytes;
         legal = tt;
       };
-      paired = record { sent = All-nil (Contains (video_stream settings tape.ticks [])); asked = (asks settings [], refl) };
+      paired = record { sent = All-nil (IsOfStream (video_stream settings tape.ticks [])); asked = (asks (narrow settings) [], refl) };
       goes_on = refl;
     }
 
 -- ---- a turn of the host
+
+-- what was sent is of the longer stream too
+of_longer : (before more : List (List ℕ)) (arrival : Arrival) → IsOfStream before arrival → IsOfStream (before ++ more) arrival
+of_longer before more (Datagram bytes) among = Contains-append_left before more bytes among
+of_longer before more Reset among = tt
 
 -- the choice for a newer tick
 sent_is_paired : (tape : Tape) (session : Session) (captured : ℕ) (t : Tick) → IsPairedSession tape session → last_tick session.history < captured
@@ -129,7 +142,8 @@ sent_is_paired tape session captured t is newer there =
     let e : Entry = Sent captured ((choice session.history t).kind) ((choice session.history t).reference) in
     let before = video_stream session.settings tape.ticks session.history in
     let grown = streams_only_grow session.settings tape.ticks e session.history in
-    let In : List ℕ → List (List ℕ) → Type 0 = λ d stream. Contains stream d in
+    let came = datagrams session.came in
+    let Sent' : List (List ℕ) → Type 0 = λ stream. All (IsOfStream stream) came in
     record {
       history = record {
         limits = is.history.limits;
@@ -138,7 +152,8 @@ sent_is_paired tape session captured t is newer there =
         legal = (is.history.legal, is.goes_on, (newer, t, there, refl));
       };
       paired = record {
-        sent = λ i d h. subst (In _) (sym grown.1) (Contains-append_left before grown.0 _ (is.paired.sent i d h));
+        sent = subst Sent' (sym grown.1)
+            (All-weaker (IsOfStream before) (IsOfStream (before ++ grown.0)) (of_longer before grown.0) came is.paired.sent);
         asked = is.paired.asked;
       };
       goes_on = is.goes_on;
@@ -172,13 +187,19 @@ datagram_is_paired : (tape : Tape) (session : Session) (o : Option (List ℕ)) �
     → IsPairedSession tape (with_datagram session o)
 datagram_is_paired tape session None is sent = is
 datagram_is_paired tape session (Some datagram) is sent =
-    let more = asks_grow session.settings datagram session.came in
+    let client = narrow session.settings in
+    let came = datagrams session.came in
+    let more = as_list (newly_asked client (Datagram datagram) came) in
     let asked = is.paired.asked in
     record {
       history = record { limits = is.history.limits; capture = is.history.capture; bytes = is.history.bytes; legal = is.history.legal };
       paired = record {
-        sent = All-cons (Contains (stream_of tape session)) datagram session.came sent is.paired.sent;
-        asked = (asked.0 ++ more.0, more.2 ∙ ap (λ l. l ++ more.0) asked.1 ∙ append_assoc _ asked.0 more.0);
+        sent = All-cons (IsOfStream (stream_of tape session)) (Datagram datagram) came sent is.paired.sent;
+        asked = (
+          asked.0 ++ more,
+          arrival_asks client (Datagram datagram) came ∙ ap (λ (l : List Range). l ++ more) asked.1
+              ∙ append_assoc (invalid_ranges session.history) asked.0 more,
+        );
       };
       goes_on = is.goes_on;
     }
@@ -233,11 +254,23 @@ of_paired Holds each bytes steps fit known taken =
     all_each (IsPairedSession tape) (Holds tape) (behind tape start steps).sessions (each tape) (runs_are_paired bytes steps fit known taken)
 
 -- frames that a paired client was handed were sent
+captured_of : (tape : Tape) (session : Session) → IsPairedSession tape session → HandsCaptured tape session
+captured_of tape session is =
+    let client = narrow session.settings in
+    let Captured : List Handed → Type 0 = All (IsSentFrame tape.ticks session.history) in
+    subst Captured (narrow_is_client session.settings session.came).0
+    (handed_were_sent client tape.ticks session.history (datagrams session.came) is.history is.paired.sent)
+
 pub runs_hand_captured_units : RunsHandCapturedUnits
-runs_hand_captured_units =
-    of_paired HandsCaptured (λ tape session is. handed_were_sent session.settings tape.ticks session.history session.came is.history is.paired.sent)
+runs_hand_captured_units = of_paired HandsCaptured captured_of
 
 -- and their references before them
+references_of : (tape : Tape) (session : Session) → IsPairedSession tape session → HandsReferences tape session
+references_of tape session is =
+    let client = narrow session.settings in
+    let Held : List Handed → Type 0 = λ hs. ReferencesHeld session.history (map (λ f. f.frame) hs) in
+    subst Held (narrow_is_client session.settings session.came).0
+    (references_without_resets client tape.ticks session.history session.came (record { least = omega arith; greatest = omega arith }) is.history is.paired)
+
 pub runs_hand_references : RunsHandReferences
-runs_hand_references =
-    of_paired HandsReferences (λ tape session is. references_were_handed session.settings tape.ticks session.history session.came is.history is.paired)
+runs_hand_references = of_paired HandsReferences references_of

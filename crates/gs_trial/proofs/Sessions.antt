@@ -6,12 +6,14 @@ use Rattle.std.proofs.lemmas.Bool.{and_parts, leb-true, ltb-true, ltb-false}
 use Rattle.std.proofs.lemmas.List.{append-nil, append_assoc, drop_at, drop_all}
 use Rattle.std.proofs.lemmas.Option.{same_Some, slice_get_read}
 use Rattle.gs_rtp.specs.Stream.{StreamSettings}
-use Rattle.gs_tape.specs.Tick.{Tick}
+use Rattle.gs_tape.specs.Tick.{Tick, tick_numbered}
 use Rattle.gs_refs.specs.declared.entry.Entry.{Entry}
 use Rattle.gs_refs.specs.declared.entry.Entry.TheVariants.{Sent}
 use Rattle.gs_refs.specs.History.{frames, last_tick}
-use Rattle.gs_frames.specs.Handed.{Handed, Range, handed, handed_through, asks}
-use Rattle.gs_stream.specs.Video.{tick_numbered, time_of, unit_of}
+use Rattle.gs_frames.specs.declared.range.Range.{Range}
+use Rattle.gs_frames.specs.Handed.{Handed}
+use Rattle.gs_frames.specs.Narrow.{narrow_handed, narrow_handed_through, narrow_asks}
+use Rattle.gs_stream.specs.Video.{time_of, unit_of}
 use Rattle.gs_stream.specs.StreamLaws.{IsLoneStream, IsLoneFrame}
 use Rattle.gs_refs.specs.History.{tick_of}
 use Rattle.gs_stream.proofs.LoneStream.{lone_stream}
@@ -74,7 +76,7 @@ pub fresh_stands : (ticks : List SmallTick) (session : Session) (tape : Tape) (s
     → length ticks ≤ most_input → session.captured ≡ 0 → IsBare settings
     → ((ticks : List Tick) → HostStandsFor ticks settings session.host []) → ((settings : StreamSettings) → ClientStandsFor settings session.client [])
     → StandsFor ticks session tape (fresh_state settings)
-unfolding handed handed_through
+unfolding narrow_handed narrow_handed_through
 fresh_stands ticks session tape settings seen small few captured bare host client =
     record {
       ticks_are = seen;
@@ -258,8 +260,8 @@ unfolding one_session
 passed_acted ticks old new tape state k text datagram s d captured host passed =
     let H : Host → Type 0 = λ h. HostStandsFor tape.ticks s.only.settings h s.only.history in
     let only = with_datagram s.only (Some datagram) in
-    let asked = gained-none (asks s.only.settings s.only.came) (asks s.only.settings (datagram ∷ s.only.came)) passed.asked_after in
-    let told = gained-none (handed s.only.settings s.only.came) (handed s.only.settings (datagram ∷ s.only.came)) passed.handed_after in
+    let asked = gained-none (narrow_asks s.only.settings s.only.came) (narrow_asks s.only.settings (datagram ∷ s.only.came)) passed.asked_after in
+    let told = gained-none (narrow_handed s.only.settings s.only.came) (narrow_handed s.only.settings (datagram ∷ s.only.came)) passed.handed_after in
     record {
       stands = stand_for (after tape state (step.Video 1 k)) state.captured only
           (after-video tape state s.only k s.is_only ∙ ap (λ (o : Option (List ℕ)). one_session state.captured (with_datagram s.only o)) d.found)
@@ -278,7 +280,7 @@ passed_acted ticks old new tape state k text datagram s d captured host passed =
       text = sym (ap (λ (l : List ℕ). text ++ l)
           (text-video tape state s.only k s.is_only
           ∙ ap (λ (o : Option (List ℕ)). client_lines 1 s.only (with_datagram s.only o)) d.found
-          ∙ ap (λ (l : List Range). flat_map (ask_line 1) l ++ flat_map (hand_lines 1) (gained (handed s.only.settings s.only.came) (handed s.only.settings (datagram ∷ s.only.came)))) asked
+          ∙ ap (λ (l : List Range). flat_map (ask_line 1) l ++ flat_map (hand_lines 1) (gained (narrow_handed s.only.settings s.only.came) (narrow_handed s.only.settings (datagram ∷ s.only.came)))) asked
           ∙ ap (λ (l : List Handed). flat_map (hand_lines 1) l) told)
           ∙ append-nil text);
     }
@@ -294,10 +296,10 @@ handed_acted ticks old new tape state k text text' text'' datagram frame lost un
     let H : Host → Type 0 = λ h. HostStandsFor tape.ticks s.only.settings h s.only.history in
     let only = with_datagram s.only (Some datagram) in
     let now : Handed = record { frame = frame; kind = 2; unit = unit } in
-    let asked_before = asks s.only.settings s.only.came in
-    let asked_now = asks s.only.settings (datagram ∷ s.only.came) in
-    let handed_before = handed s.only.settings s.only.came in
-    let handed_now = handed s.only.settings (datagram ∷ s.only.came) in
+    let asked_before = narrow_asks s.only.settings s.only.came in
+    let asked_now = narrow_asks s.only.settings (datagram ∷ s.only.came) in
+    let handed_before = narrow_handed s.only.settings s.only.came in
+    let handed_now = narrow_handed s.only.settings (datagram ∷ s.only.came) in
     let asked = gained-append asked_before asked_now lost is_handed.asked_after in
     let told = gained-append handed_before handed_now (now ∷ []) is_handed.handed_after in
     record {

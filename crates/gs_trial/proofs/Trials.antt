@@ -11,7 +11,7 @@ use Rattle.gs_bytes.specs.Outside.{AppendsPart}
 use Rattle.gs_trial.specs.declared.step.Step.{Step}
 use Rattle.gs_trial.specs.Forms.{is_small_step, are_taken}
 use Rattle.gs_refs.specs.History.{frames}
-use Rattle.gs_frames.specs.Handed.{handed, asks}
+use Rattle.gs_frames.specs.Narrow.{narrow_handed, narrow_asks}
 use Rattle.gs_trial.specs.Output.{done_line, total_line}
 use Rattle.gs_trial.specs.Run.{Tape, Session, State, is_taken, after, step_text, text_from, total_of, totals_from}
 
@@ -87,12 +87,12 @@ next_of tape now steps i d done all h small taken text =
 
 -- the last lines, by what the session's sums are
 pub final_text : (tape : Tape) (now : State) (only : Session) (sent given asked : ℕ) → now.sessions ≡ only ∷ []
-    → sent ≡ frames only.history → given ≡ length (handed only.settings only.came) → asked ≡ length (asks only.settings only.came)
+    → sent ≡ frames only.history → given ≡ length (narrow_handed only.settings only.came) → asked ≡ length (narrow_asks only.settings only.came)
     → total_line 1 sent given asked 0 0 ++ done_line ≡ text_from tape true now []
 final_text tape now only sent given asked one a b d =
     ap (λ (n : ℕ). total_line 1 n given asked 0 0 ++ done_line) a
     ∙ ap (λ (n : ℕ). total_line 1 (frames only.history) n asked 0 0 ++ done_line) b
-    ∙ ap (λ (n : ℕ). total_line 1 (frames only.history) (length (handed only.settings only.came)) n 0 0 ++ done_line) d
+    ∙ ap (λ (n : ℕ). total_line 1 (frames only.history) (length (narrow_handed only.settings only.came)) n 0 0 ++ done_line) d
     ∙ ap (λ (l : List ℕ). l ++ done_line) (sym (append-nil (total_of 1 only)))
     ∙ ap (λ (l : List Session). totals_from 1 l ++ done_line) (sym one)
     ∙ sym (last_text tape now)

@@ -4,12 +4,11 @@ use Rattle.std.specs.Prelude.{◌==◌, ◌&&◌, ◌||◌, not, nat_lt, if◌th
 use Rattle.std.specs.List.{AllByRecursion, slice_get, list_any}
 use Rattle.std.proofs.lemmas.Bool.{cond-true, cond-false, le-ltb, lt-ltb, and_left, and_right, and_from}
 use Rattle.gs_rtp.specs.Stream.{StreamSettings}
-use Rattle.gs_tape.specs.Tick.{Tick, Delta}
+use Rattle.gs_tape.specs.Tick.{Tick, Delta, tick_numbered}
 use Rattle.gs_refs.specs.declared.entry.Entry.{Entry}
 use Rattle.gs_refs.specs.declared.entry.Entry.TheVariants.{Sent, Invalid, IdrAsked, Ended}
 use Rattle.gs_refs.specs.History.{frames, last_tick, tick_of, is_valid, idr_is_owed, has_ended}
 use Rattle.gs_refs.specs.Choice.{Choice, idr, names, greatest_named, re_entry, choice}
-use Rattle.gs_stream.specs.Video.{tick_numbered}
 use Rattle.gs_trial.specs.declared.tape.SmallTick.{SmallTick}
 use Rattle.std.proofs.lemmas.Option.{none-some, same_Some}
 use Rattle.gs_trial.specs.Run as Run
@@ -73,7 +72,11 @@ seen_from first (suc k) (x ∷ ticks) t there =
     seen_from (first + 1) k ticks t there ∙ ap (λ (n : ℕ). Some (tick_seen n t)) (omega arith)
 
 -- the tick of a number from 1
+pub tick_numbered-is : (ticks : List Tick) (number : ℕ) → 1 ≤ number → tick_numbered ticks number ≡ slice_get ticks (number - 1)
+tick_numbered-is ticks zero least = absurd (omega arith)
+tick_numbered-is ticks (suc before) least = let at : before ≡ suc before - 1 = omega arith in ap (slice_get ticks) at
+
 pub seen_numbered : (number : ℕ) (ticks : List SmallTick) (t : SmallTick) → 1 ≤ number → slice_get ticks (number - 1) ≡ Some t
     → tick_numbered (ticks_seen 1 ticks) number ≡ Some (tick_seen number t)
 seen_numbered number ticks t least there =
-    seen_from 1 (number - 1) ticks t there ∙ ap (λ (n : ℕ). Some (tick_seen n t)) (omega arith)
+    tick_numbered-is (ticks_seen 1 ticks) number least ∙ seen_from 1 (number - 1) ticks t there ∙ ap (λ (n : ℕ). Some (tick_seen n t)) (omega arith)

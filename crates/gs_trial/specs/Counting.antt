@@ -1,4 +1,4 @@
--- Which run the counts of its steps stand for.
+-- Cited by private contracts alone: which run the counts of its steps stand for.
 use Rattle.std.specs.Prelude.{ℕ, ◌≡◌, ◌≤◌, Bool, true, ◌&&◌, [], ◌∷◌, length}
 use Rattle.std.specs.List.{AllByRecursion}
 use Rattle.gs_refs.specs.History.{frames, last_tick}

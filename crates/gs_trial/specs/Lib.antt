@@ -5,5 +5,6 @@ pub mod Forms
 pub mod Words
 pub mod Trial
 pub mod Standing
+pub mod Status
 pub mod Counting
 pub mod RunLaws

@@ -1,6 +1,7 @@
 -- The lines that a trial writes, one for each event.
 use Rattle.std.specs.Prelude.{ℕ, List, [], ◌∷◌, ◌++◌, length, codes, Option, Some, None}
-use Rattle.gs_frames.specs.Handed.{Handed, Range}
+use Rattle.gs_frames.specs.declared.range.Range.{Range}
+use Rattle.gs_frames.specs.Handed.{Handed}
 use Rattle.gs_trial.specs.Schedule.{newline, word}
 
 -- a frame went out: session, frame, kind, tick, reference

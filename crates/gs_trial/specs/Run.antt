@@ -3,14 +3,14 @@
 use Rattle.std.specs.Prelude.{ℕ, zero, suc, ◌+◌, ◌-◌, Bool, false, ◌&&◌, not, List, [], ◌∷◌, ◌++◌, length, drop, Option, Some, None, is_none, slice_get, nat_lt, nat_le, if◌then◌else◌}
 use Rattle.std.specs.List.{flat_map}
 use Rattle.gs_rtp.specs.Stream.{StreamSettings}
-use Rattle.gs_tape.specs.Tick.{Tick}
+use Rattle.gs_tape.specs.Tick.{Tick, tick_numbered}
 use Rattle.gs_tape.specs.Reading.{ticks_of, first_fault, audio_length, audio_duration}
 use Rattle.gs_refs.specs.declared.entry.Entry.{Entry}
 use Rattle.gs_refs.specs.declared.entry.Entry.TheVariants.{Sent}
 use Rattle.gs_refs.specs.History.{frames, last_tick, has_ended}
 use Rattle.gs_refs.specs.Choice.{choice}
-use Rattle.gs_frames.specs.Handed.{handed, asks}
-use Rattle.gs_stream.specs.Video.{video_stream, tick_numbered}
+use Rattle.gs_frames.specs.Narrow.{narrow_handed, narrow_asks}
+use Rattle.gs_stream.specs.Video.{video_stream}
 use Rattle.gs_trial.specs.declared.step.Step.{Step}
 use Rattle.gs_trial.specs.declared.step.Step.TheVariants as step
 use Rattle.gs_trial.specs.Output.{sent_line, ask_line, hand_lines, total_line, done_line}
@@ -148,8 +148,8 @@ entry_lines number session (Some entry) = elim entry [
 
 abbrev pub client_lines : ℕ → Session → Session → List ℕ
 client_lines number old new =
-    flat_map (ask_line number) (gained (asks old.settings old.came) (asks new.settings new.came))
-    ++ flat_map (hand_lines number) (gained (handed old.settings old.came) (handed new.settings new.came))
+    flat_map (ask_line number) (gained (narrow_asks old.settings old.came) (narrow_asks new.settings new.came))
+    ++ flat_map (hand_lines number) (gained (narrow_handed old.settings old.came) (narrow_handed new.settings new.came))
 
 abbrev pub send_lines : Tape → State → ℕ → Option Session → List ℕ
 send_lines tape state number None = []
@@ -169,7 +169,7 @@ step_text tape state (step.Video session k) = video_lines tape session k (sessio
 
 abbrev pub total_of : ℕ → Session → List ℕ
 total_of number session =
-    total_line number (frames session.history) (length (handed session.settings session.came)) (length (asks session.settings session.came)) 0 0
+    total_line number (frames session.history) (length (narrow_handed session.settings session.came)) (length (narrow_asks session.settings session.came)) 0 0
 
 abbrev pub totals_from : ℕ → List Session → List ℕ
 totals_from number [] = []

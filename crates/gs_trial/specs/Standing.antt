@@ -1,16 +1,17 @@
--- What the program keeps of a run, and which run it stands for.
+-- Cited by private contracts alone: what the program keeps of a run, and which run it stands for.
 use Rattle.std.specs.Prelude.{ℕ, ◌≡◌, ◌⊎◌, ◌+◌, ◌≤◌, true, false, Bool, ◌&&◌, ◌==◌, nat_le, if◌then◌else◌, Some, None, Result, IfOk, List, [], ◌∷◌, ◌++◌, length, map, vec_len}
 use Rattle.std.specs.List.{All, AllByRecursion, list_all}
 use Rattle.gs_rtp.specs.Stream.{StreamSettings, numbers_of, AreWithinLimits}
-use Rattle.gs_tape.specs.Tick.{Tick}
+use Rattle.gs_tape.specs.Tick.{Tick, tick_numbered}
 use Rattle.gs_tape.specs.Reading.{Read, Fault, Before, Head}
 use Rattle.gs_refs.specs.declared.entry.Entry.{Entry}
 use Rattle.gs_refs.specs.declared.entry.Entry.TheVariants.{Sent, Invalid, IdrAsked, Ended}
 use Rattle.gs_refs.specs.History.{frames, last_tick}
-use Rattle.gs_frames.specs.Handed.{Range, handed, asks}
+use Rattle.gs_frames.specs.declared.range.Range.{Range}
+use Rattle.gs_frames.specs.Narrow.{narrow_handed, narrow_asks}
 use Rattle.gs_frames.specs.Lone.{FitsOnePacket, lone_datagram}
 use Rattle.gs_frames.specs.LoneLaws.{AreLone, greatest_of}
-use Rattle.gs_stream.specs.Video.{video_stream, tick_numbered}
+use Rattle.gs_stream.specs.Video.{video_stream}
 use Rattle.gs_stream.specs.StreamLaws.{IsLoneTick}
 use Rattle.gs_trial.specs.declared.tape.SmallTick.{SmallTick}
 use Rattle.gs_trial.specs.declared.host.Host.{Host}
@@ -118,8 +119,8 @@ pub record IsDatagramOf (settings : StreamSettings) (frame : ℕ) (unit datagram
 -- what the client has counted is what it was given, each of it the one datagram of an IDR frame
 pub record ClientStandsFor (settings : StreamSettings) (client : Client) (came : List (List ℕ)) : Type 0 where
   pub greatest_frame : client.greatest ≡ greatest_of settings came
-  pub handed_count : client.handed ≡ length (handed settings came)
-  pub asks_count : client.asks ≡ length (asks settings came)
+  pub handed_count : client.handed ≡ length (narrow_handed settings came)
+  pub asks_count : client.asks ≡ length (narrow_asks settings came)
   pub lone : AreLone settings came
 
 -- a datagram of some session whose frames are one packet each
@@ -132,14 +133,14 @@ pub record MayTake (datagram : List ℕ) : Type 0 where
 -- the client stands for what came, and nothing is told of the datagram
 pub record IsPassed (settings : StreamSettings) (client : Client) (datagram : List ℕ) (came : List (List ℕ)) : Type 0 where
   pub stands : ClientStandsFor settings client (datagram ∷ came)
-  pub handed_after : handed settings (datagram ∷ came) ≡ handed settings came
-  pub asked_after : asks settings (datagram ∷ came) ≡ asks settings came
+  pub handed_after : narrow_handed settings (datagram ∷ came) ≡ narrow_handed settings came
+  pub asked_after : narrow_asks settings (datagram ∷ came) ≡ narrow_asks settings came
 
 -- the client stands for what came, the frame is handed over, and the lost ones are asked for
 pub record IsHanded (settings : StreamSettings) (client : Client) (datagram : List ℕ) (came : List (List ℕ)) (frame : ℕ) (lost : List Range) (unit : List ℕ) : Type 0 where
   pub stands : ClientStandsFor settings client (datagram ∷ came)
-  pub handed_after : handed settings (datagram ∷ came) ≡ handed settings came ++ record { frame = frame; kind = 2; unit = unit } ∷ []
-  pub asked_after : asks settings (datagram ∷ came) ≡ asks settings came ++ lost
+  pub handed_after : narrow_handed settings (datagram ∷ came) ≡ narrow_handed settings came ++ record { frame = frame; kind = 2; unit = unit } ∷ []
+  pub asked_after : narrow_asks settings (datagram ∷ came) ≡ narrow_asks settings came ++ lost
 
 -- whatever the client stood for, and whichever frame the datagram is of
 abbrev pub Passes : Client → Client → List ℕ → Type 0

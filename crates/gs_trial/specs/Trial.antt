@@ -1,25 +1,26 @@
 -- What a trial promises of its inputs and its output. What an object doesn't tell is `None`.
-use Rattle.std.specs.Prelude.{ℕ, ◌≡◌, ◌+◌, ◌≤◌, Bool, false, List, [], ◌∷◌, length, Option}
+use Rattle.std.specs.Prelude.{ℕ, ◌≡◌, ◌+◌, ◌≤◌, Bool, false, List, [], ◌∷◌, length, map, Option}
 use Rattle.std.specs.Io.KnownBytes.{Appends, Consumes, IsAtEnd}
 use Rattle.std.specs.List.{All, AllByRecursion}
 use Rattle.gs_bytes.specs.Outside.{AppendsPart, SetsFlag}
 use Rattle.gs_refs.specs.History.{has_ended}
-use Rattle.gs_frames.specs.Handed.{handed}
+use Rattle.gs_frames.specs.Client.{datagrams}
+use Rattle.gs_frames.specs.Narrow.{narrow, narrow_handed}
 use Rattle.gs_stream.specs.HandedLaws.{IsHostHistory, IsSentFrame}
 use Rattle.gs_stream.specs.Paired.{IsPaired}
-use Rattle.gs_pair.specs.References.{ReferencesHeld, handed_frames}
+use Rattle.gs_pair.specs.References.{ReferencesHeld}
 use Rattle.gs_trial.specs.declared.step.Step.{Step}
 use Rattle.gs_trial.specs.Run.{Tape, Session, State, start, tape_of, after, text_of}
 use Rattle.gs_trial.specs.Forms.{most_input, IsBuilt}
 
--- what an input tells before a call and behind it: the bytes left, those read, whether a read met the end
+-- what an object that is read tells: the bytes left, those read, whether a read met the end
 pub record Told : Type 0 where
   pub left : Option (List ℕ)
   pub taken : Option (List ℕ)
   pub met_end : Option Bool
 
-abbrev pub told : Option (List ℕ) → Option (List ℕ) → Option Bool → Told
-told left taken met_end = record { left = left; taken = taken; met_end = met_end }
+abbrev pub told : {X : Type 0} → (X → Option (List ℕ)) → (X → Option (List ℕ)) → (X → Option Bool) → X → Told
+told left taken met_end object = record { left = left object; taken = taken object; met_end = met_end object }
 
 -- These bytes were read of an input: all that there were, unless they are too many to be run.
 pub record WasRead (before now : Told) (bytes : List ℕ) : Type 0 where
@@ -28,6 +29,10 @@ pub record WasRead (before now : Told) (bytes : List ℕ) : Type 0 where
   pub bound : length bytes ≤ most_input + 1
   pub at_end : length bytes ≤ most_input → IsAtEnd now.left
   pub met_end : length bytes ≤ most_input → SetsFlag before.met_end now.met_end
+
+-- an input was read: all of it, unless it is too long to be run
+abbrev pub ReadsWhole : Told → Told → Type 0
+ReadsWhole before now = (bytes : List ℕ) × WasRead before now bytes
 
 -- the state behind all of the steps
 unfoldable pub behind : Tape → State → List Step → State
@@ -38,16 +43,16 @@ behind tape state (s ∷ steps) = behind tape (after tape state s) steps
 -- it, and nothing ended it
 pub record IsPairedSession (tape : Tape) (session : Session) : Type 0 where
   pub history : IsHostHistory session.settings tape.ticks session.history
-  pub paired : IsPaired session.settings tape.ticks session.history session.came
+  pub paired : IsPaired (narrow session.settings) tape.ticks session.history (datagrams session.came)
   pub goes_on : has_ended session.history ≡ false
 
 -- each frame that a session's client was handed was sent, and is byte for byte the captured unit of it
 abbrev pub HandsCaptured : Tape → Session → Type 0
-HandsCaptured tape session = All (IsSentFrame tape.ticks session.history) (handed session.settings session.came)
+HandsCaptured tape session = All (IsSentFrame tape.ticks session.history) (narrow_handed session.settings session.came)
 
 -- and each of them that refers to another was handed behind it
 abbrev pub HandsReferences : Tape → Session → Type 0
-HandsReferences tape session = ReferencesHeld session.history (handed_frames session.settings session.came)
+HandsReferences tape session = ReferencesHeld session.history (map (λ f. f.frame) (narrow_handed session.settings session.came))
 
 -- Both inputs were read, and what they hold is run today; behind all steps each session is paired, and its
 -- client was handed captured units alone, each behind the one that it refers to.

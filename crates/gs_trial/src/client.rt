@@ -2,7 +2,7 @@
 
 ghost use Rattle.std.specs.Prelude.{◌≡◌, ◌≤◌, ◌<◌, ◌+◌, ◌-◌, IfNone, IfSome, []};
 ghost use Rattle.gs_rtp.specs.Stream.{StreamSettings};
-ghost use Rattle.gs_frames.specs.Handed.{range_or_none};
+ghost use Rattle.gs_frames.specs.Narrow.{range_or_none};
 ghost use Rattle.gs_trial.specs.Output.{ranges_of};
 
 use gs_bytes::{read_u16_le, read_u32_le};

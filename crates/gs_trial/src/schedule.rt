@@ -5,28 +5,15 @@ ghost use Rattle.gs_trial.specs.declared.step.Step.{Step as StepOf};
 ghost use Rattle.gs_trial.specs.Schedule.{Lacks, IsBusySchedule, IsStep, line_of, lines_of};
 
 use crate::step::Step;
-use gs_bytes::OutOfMemory;
-use itoa::Buffer;
+use gs_bytes::{OutOfMemory, parse_number};
 use std::alloc::Global;
-use std::str::from_utf8;
 
 // The number that a word spells in decimal.
 fn number_of(word: &[u8]) -> Option<u32>
     ensures some { IfSome result (λ n. word.now ≡ decimal n) }
     ensures none { IfNone result ((n : ℕ) → n < 2 ^ 32 → word.now ≢ decimal n) }
 {
-    let Ok(text) = from_utf8(word) else {
-        return None;
-    };
-    let Ok(number) = text.parse::<u32>() else {
-        return None;
-    };
-    let mut buffer = Buffer::new();
-    if buffer.format(number).as_bytes() == word {
-        Some(number)
-    } else {
-        None
-    }
+    parse_number(word, u32::MAX)
 }
 
 // The two parts of a text around the first of this byte.

@@ -11,7 +11,7 @@ ghost use Rattle.gs_trial.specs.Words.{first_misfit};
 ghost use Rattle.gs_trial.specs.Forms.{most_input, most_small_unit, are_small_steps, are_taken, IsBuilt};
 ghost use Rattle.gs_trial.specs.Run.{start, tape_of, text_from};
 ghost use Rattle.gs_trial.specs.Standing.{seen, MayRun, MayRunPlan, session_text};
-ghost use Rattle.gs_trial.specs.Trial.{told, ReadsOther, WritesText, WritesPart};
+ghost use Rattle.gs_trial.specs.Trial.{told, ReadsOther, ReadsWhole, WritesText, WritesPart};
 
 use crate::form::{are_all_taken, settings_of};
 use crate::output::{push_done, push_total};
@@ -90,6 +90,7 @@ fn run_session<K: Sink>(
     ensures err { OnErr result (AppendsPart (K.written out.old) (K.written out.new) (session_text ticks.now (numbers_of settings) steps.now)) }
     ensures fault { IsErrOf result Failed.Fault → Rose (K.faults out.old) (K.faults out.new) }
     ensures none_counted { OnOk result (K.faults out.new ≡ K.faults out.old) }
+    ensures counted { K.faults out.new ≢ K.faults out.old → result ≡ Err Failed.Fault }
 {
     let mut session = Session::open(alloc, settings);
     let mut text = Vec::new(alloc);
@@ -113,6 +114,7 @@ fn run<K: Sink>(alloc: Global, plan: &Plan, out: &mut K) -> Result<(), Failed>
         (text_from (seen plan.now.tape.duration plan.now.tape.ticks.items) true start plan.now.steps.items)) }
     ensures fault { IsErrOf result Failed.Fault → Rose (K.faults out.old) (K.faults out.new) }
     ensures none_counted { OnOk result (K.faults out.new ≡ K.faults out.old) }
+    ensures counted { K.faults out.new ≢ K.faults out.old → result ≡ Err Failed.Fault }
 {
     match plan.steps.as_slice() {
         [] => write_all(out, b"ok\n"),
@@ -142,29 +144,32 @@ pub fn trial_main<S: Source, T: Source, K: Sink>(
     ensures schedule_fault { result ≡ TrialStatus.ScheduleFault → Rose (T.faults schedule.old) (T.faults schedule.new) }
     ensures write_fault { result ≡ TrialStatus.WriteFault → Rose (K.faults out.old) (K.faults out.new) }
 
-    // A fault that was counted is answered, and that of the capture file comes first.
-    ensures tape_counted { S.faults tape.new ≢ S.faults tape.old → (result ≡ TrialStatus.TapeFault) ⊎ (result ≡ TrialStatus.OutOfMemory) }
-    ensures schedule_counted { T.faults schedule.new ≢ T.faults schedule.old → (result ≡ TrialStatus.ScheduleFault) ⊎ (result ≡ TrialStatus.OutOfMemory) }
-    ensures write_counted { K.faults out.new ≢ K.faults out.old → (result ≡ TrialStatus.WriteFault) ⊎ (result ≡ TrialStatus.OutOfMemory) }
+    // A fault that was counted is answered. The capture file is read first, and the schedule only behind all of it.
+    ensures tape_counted { S.faults tape.new ≢ S.faults tape.old → result ≡ TrialStatus.TapeFault }
+    ensures schedule_counted { T.faults schedule.new ≢ T.faults schedule.old → result ≡ TrialStatus.ScheduleFault }
+    ensures write_counted { K.faults out.new ≢ K.faults out.old → result ≡ TrialStatus.WriteFault }
     ensures tape_first { result ≡ TrialStatus.TapeFault → schedule.new ≡ schedule.old }
+    ensures tape_read { result ≡ TrialStatus.ScheduleFault → ReadsWhole
+        (told S.left S.taken S.met_end tape.old) (told S.left S.taken S.met_end tape.new) }
 
     // What isn't run today was read, and is no capture file and schedule that is.
     ensures later { result ≡ TrialStatus.Later → ReadsOther
-        (told (S.left tape.old) (S.taken tape.old) (S.met_end tape.old)) (told (S.left tape.new) (S.taken tape.new) (S.met_end tape.new))
-        (told (T.left schedule.old) (T.taken schedule.old) (T.met_end schedule.old)) (told (T.left schedule.new) (T.taken schedule.new) (T.met_end schedule.new)) }
+        (told S.left S.taken S.met_end tape.old) (told S.left S.taken S.met_end tape.new)
+        (told T.left T.taken T.met_end schedule.old) (told T.left T.taken T.met_end schedule.new) }
 
-    // What is run was read, and its text was written: the whole of it at `Ok`.
+    // What is run was read, and its text was written: the whole of it at `Ok`. The text shows neither the
+    // timestamps of datagrams nor the frame rate of the settings: a clause on the datagrams that were sent is to.
     ensures ok { result ≡ TrialStatus.Ok → WritesText
-        (told (S.left tape.old) (S.taken tape.old) (S.met_end tape.old)) (told (S.left tape.new) (S.taken tape.new) (S.met_end tape.new))
-        (told (T.left schedule.old) (T.taken schedule.old) (T.met_end schedule.old)) (told (T.left schedule.new) (T.taken schedule.new) (T.met_end schedule.new))
+        (told S.left S.taken S.met_end tape.old) (told S.left S.taken S.met_end tape.new)
+        (told T.left T.taken T.met_end schedule.old) (told T.left T.taken T.met_end schedule.new)
         (K.written out.old) (K.written out.new) }
     ensures write_part { result ≡ TrialStatus.WriteFault → WritesPart
-        (told (S.left tape.old) (S.taken tape.old) (S.met_end tape.old)) (told (S.left tape.new) (S.taken tape.new) (S.met_end tape.new))
-        (told (T.left schedule.old) (T.taken schedule.old) (T.met_end schedule.old)) (told (T.left schedule.new) (T.taken schedule.new) (T.met_end schedule.new))
+        (told S.left S.taken S.met_end tape.old) (told S.left S.taken S.met_end tape.new)
+        (told T.left T.taken T.met_end schedule.old) (told T.left T.taken T.met_end schedule.new)
         (K.written out.old) (K.written out.new) }
     ensures memory { result ≡ TrialStatus.OutOfMemory → Keeps (K.written out.old) (K.written out.new) ⊎ WritesPart
-        (told (S.left tape.old) (S.taken tape.old) (S.met_end tape.old)) (told (S.left tape.new) (S.taken tape.new) (S.met_end tape.new))
-        (told (T.left schedule.old) (T.taken schedule.old) (T.met_end schedule.old)) (told (T.left schedule.new) (T.taken schedule.new) (T.met_end schedule.new))
+        (told S.left S.taken S.met_end tape.old) (told S.left S.taken S.met_end tape.new)
+        (told T.left T.taken T.met_end schedule.old) (told T.left T.taken T.met_end schedule.new)
         (K.written out.old) (K.written out.new) }
 
     // Whatever the answer, reading stops behind the bound of either input.

@@ -6,6 +6,10 @@
 //! the contract of `gs_trial::trial_main`; this crate only opens the files and prints.
 #![tactic(auto)]
 
+ghost use Rattle.std.specs.Prelude.{◌≡◌, ◌⊎◌, ◌↔◌, ℕ, Some, IfErr, map, string_bytes};
+ghost use Rattle.gs_trial.specs.Words.{first_misfit};
+ghost use Rattle.gstrial.specs.Program.{exit_status as status_of, tape_name as tape_named, schedule_name as schedule_named, word_at as word_of};
+
 use gs_net::{FileSource, OutSink};
 use gs_trial::{TrialStatus, trial_main};
 use std::process::ExitCode;
@@ -16,8 +20,10 @@ const TAPE_PLACE: usize = 2;
 
 const SCHEDULE_PLACE: usize = 3;
 
-// The exit status of each answer.
-fn exit_status(status: TrialStatus) -> u8 {
+/// The exit status of an answer.
+fn exit_status(status: TrialStatus) -> u8
+    ensures { result ≡ status_of status }
+{
     match status {
         TrialStatus::Ok => 0,
         TrialStatus::Usage { .. } => 2,
@@ -29,49 +35,63 @@ fn exit_status(status: TrialStatus) -> u8 {
     }
 }
 
-// Says on standard error why a run ended otherwise than `ok`.
-fn explain(rt: &HostRuntime, status: TrialStatus) -> io::Result<()> {
-    match status {
-        TrialStatus::Ok => Ok(()),
-        TrialStatus::Usage { word } => eprintln!(rt; "usage: word {word}"),
-        TrialStatus::TapeFault => eprintln!(rt; "tape: read failed"),
-        TrialStatus::ScheduleFault => eprintln!(rt; "schedule: read failed"),
-        TrialStatus::WriteFault => eprintln!(rt; "write failed"),
-        TrialStatus::Later => eprintln!(rt; "not built"),
-        TrialStatus::OutOfMemory => eprintln!(rt; "out of memory"),
-    }
-}
-
-// The word at a place, empty where there is none.
-fn word_at(words: &[String], place: usize) -> &str {
+/// The word at a place, empty where there is none.
+fn word_at(words: &[String], place: usize) -> &str
+    ensures { result.now ≡ word_of (map string_bytes words.now) place }
+{
     match words.get(place) {
         Some(word) => word.as_str(),
         None => "",
     }
 }
 
-// Runs the trial that the words name. A word that isn't text doesn't fit at its place; the system
-// gives all words or none, so this is said of the first.
-fn run(rt: &HostRuntime) -> TrialStatus {
-    let args = match env::args(rt) {
-        Ok(args) => args,
-        Err(error) if error.kind() == io::ErrorKind::OutOfMemory => {
-            return TrialStatus::OutOfMemory;
-        }
-        Err(_) => return TrialStatus::Usage { word: 1 },
-    };
-    let Ok(words) = args.skip(1).collect::<Vec<String>>(rt.alloc()) else {
-        return TrialStatus::OutOfMemory;
-    };
-    let mut tape = FileSource::open(rt, word_at(&words, TAPE_PLACE));
-    let mut schedule = FileSource::open(rt, word_at(&words, SCHEDULE_PLACE));
+/// The name of the capture file.
+fn tape_name(words: &[String]) -> &str
+    ensures { result.now ≡ tape_named (map string_bytes words.now) }
+{
+    word_at(words, TAPE_PLACE)
+}
+
+/// The name of the schedule.
+fn schedule_name(words: &[String]) -> &str
+    ensures { result.now ≡ schedule_named (map string_bytes words.now) }
+{
+    word_at(words, SCHEDULE_PLACE)
+}
+
+/// The words of the command. One that isn't text doesn't fit at its place; the system gives all
+/// words or none, so this is said of the first.
+fn command_words(rt: &HostRuntime) -> Result<Vec<String>, TrialStatus>
+    ensures { IfErr result (λ status. (status ≡ TrialStatus.Usage 1) ⊎ (status ≡ TrialStatus.OutOfMemory)) }
+{
+    match env::args(rt) {
+        Ok(args) => match args.skip(1).collect::<Vec<String>>(rt.alloc()) {
+            Ok(words) => Ok(words),
+            Err(_) => Err(TrialStatus::OutOfMemory),
+        },
+        Err(error) if error.kind() == io::ErrorKind::OutOfMemory => Err(TrialStatus::OutOfMemory),
+        Err(_) => Err(TrialStatus::Usage { word: 1 }),
+    }
+}
+
+/// Runs the trial that the words name.
+fn run(rt: &HostRuntime, words: &[String]) -> TrialStatus
+    ensures usage { (word : ℕ) → (result ≡ TrialStatus.Usage word) ↔ (first_misfit (map string_bytes words.now) ≡ Some word) }
+{
+    let mut tape = FileSource::open(rt, tape_name(words));
+    let mut schedule = FileSource::open(rt, schedule_name(words));
     let mut out = OutSink::new(rt.stdout());
-    trial_main(rt.alloc(), &words, &mut tape, &mut schedule, &mut out)
+    trial_main(rt.alloc(), words, &mut tape, &mut schedule, &mut out)
 }
 
 fn main(rt: HostRuntime) -> ExitCode {
-    let status = run(&rt);
-    // Where standard error is closed too, the exit status alone is left to tell.
-    let _ = explain(&rt, status);
+    let status = match command_words(&rt) {
+        Ok(words) => run(&rt, &words),
+        Err(status) => status,
+    };
+    if status != TrialStatus::Ok {
+        // Where standard error is closed too, the exit status alone is left to tell.
+        let _ = eprintln!(rt; "{status}");
+    }
     ExitCode::from(exit_status(status))
 }
