@@ -1,0 +1,5 @@
+pub mod Heads
+pub mod Standing
+pub mod Moving
+pub mod Passing
+pub mod Arrivals

@@ -1,0 +1,4 @@
+pub mod ImageHead
+pub mod Depack
+pub mod Steps
+pub mod Laws

@@ -1,0 +1,8 @@
+/// What a datagram of a greater frame changed: the greatest frame before it, 0 at first, and its own.
+#[derive(Clone, Copy, Debug, PartialEq, Eq)]
+pub struct Moved {
+    pub from: u32,
+    pub to: u32,
+    /// `whole[i]` says whether each block of frame `from - i` was whole. It is false for a frame that was left before.
+    pub whole: [bool; 4],
+}

@@ -1,0 +1,141 @@
+use crate::{Depack, ImageHead, Moved, read_image};
+use gs_frames::Range;
+
+fn moved(from: u32, to: u32) -> Moved {
+    Moved {
+        from,
+        to,
+        whole: [false; 4],
+    }
+}
+
+#[test]
+fn reads_images_in_order(rt: HostRuntime) {
+    // the header, the length of the image and of its payloads, and what is read
+    let rows = [
+        (
+            [1, 0, 0, 2, 11, 0, 0, 0],
+            1_008,
+            1_008,
+            Some(ImageHead { kind: 2, length: 3 }),
+        ),
+        (
+            [1, 9, 9, 4, 11, 0, 9, 9],
+            1_008,
+            1_008,
+            Some(ImageHead { kind: 1, length: 3 }),
+        ),
+        (
+            [1, 0, 0, 5, 8, 0, 0, 0],
+            1_008,
+            1_008,
+            Some(ImageHead { kind: 5, length: 0 }),
+        ),
+        (
+            [1, 0, 0, 1, 1, 0, 0, 0],
+            2_016,
+            1_008,
+            Some(ImageHead {
+                kind: 1,
+                length: 1_001,
+            }),
+        ),
+        (
+            [1, 0, 0, 1, 0xF0, 3, 0, 0],
+            1_008,
+            1_008,
+            Some(ImageHead {
+                kind: 1,
+                length: 1_000,
+            }),
+        ),
+        ([1, 0, 0, 1, 0xF1, 3, 0, 0], 1_008, 1_008, None),
+        ([1, 0, 0, 1, 7, 0, 0, 0], 1_008, 1_008, None),
+        ([1, 0, 0, 1, 0, 0, 0, 0], 2_016, 1_008, None),
+        ([1, 0, 0, 3, 11, 0, 0, 0], 1_008, 1_008, None),
+        ([2, 0, 0, 2, 11, 0, 0, 0], 1_008, 1_008, None),
+        ([1, 0, 0, 2, 11, 0, 0, 0], 1_007, 1_008, None),
+        ([1, 0, 0, 2, 11, 0, 0, 0], 0, 1_008, None),
+        ([1, 0, 0, 2, 1, 0, 0, 0], 14, 7, None),
+        ([1, 0, 0, 2, 1, 0, 0, 0], 14, 0, None),
+    ];
+    for (header, length, payload, want) in rows {
+        let mut image = [0xAA; 2_016];
+        image[..8].copy_from_slice(&header);
+        assert_eq!(rt;
+            read_image(&image[..length.min(image.len())], payload),
+            want,
+            "{header:?} {length} {payload}"
+        );
+    }
+}
+
+#[test]
+fn hands_a_late_frame_and_those_behind_it(rt: HostRuntime) {
+    for window in 2..=4_u8 {
+        let mut depack = Depack::new(window);
+        assert_eq!(rt; depack.moved(&moved(0, 1)), None);
+        depack.note(1, 2);
+        assert_eq!(rt; depack.next(), Some(1));
+        assert_eq!(rt; depack.next(), None);
+        assert_eq!(rt; depack.moved(&moved(1, 3)), None);
+        depack.note(3, 1);
+        assert_eq!(rt; depack.next(), None);
+        depack.note(2, 1);
+        assert_eq!(rt; depack.next(), Some(2));
+        assert_eq!(rt; depack.next(), Some(3));
+        assert_eq!(rt; depack.next(), None);
+    }
+}
+
+#[test]
+fn asks_for_what_it_leaves(rt: HostRuntime) {
+    // the window, and the range asked for when frame 9 comes behind a complete frame 1 and an open frame 3
+    let rows = [(1, 8), (2, 7), (3, 6), (4, 5)];
+    for (window, last) in rows {
+        let mut depack = Depack::new(window);
+        let first = depack.moved(&moved(0, 1));
+        assert_eq!(rt; first, None);
+        depack.note(1, 2);
+        assert_eq!(rt; depack.next(), Some(1));
+        let second = depack.moved(&moved(1, 3));
+        let asked = if window == 1 {
+            Some(Range { first: 2, last: 2 })
+        } else {
+            None
+        };
+        assert_eq!(rt; second, asked);
+        let next = if window == 1 { 3 } else { 2 };
+        assert_eq!(rt;
+            depack.moved(&moved(3, 9)),
+            Some(Range { first: next, last })
+        );
+        depack.note(9, 5);
+        let handed = if window == 1 { Some(9) } else { None };
+        assert_eq!(rt; depack.next(), handed);
+        assert_eq!(rt; depack.next(), None);
+    }
+}
+
+#[test]
+fn waits_for_an_idr_frame_after_a_reset(rt: HostRuntime) {
+    let mut depack = Depack::new(1);
+    // after a reset behind frame 1: the frame before, each frame, its kind, and whether it is handed
+    let rows = [
+        (1, 2, 1, false),
+        (2, 3, 5, false),
+        (3, 4, 2, true),
+        (4, 5, 1, true),
+        (5, 6, 5, true),
+    ];
+    assert_eq!(rt; depack.moved(&moved(0, 1)), None);
+    depack.note(1, 2);
+    assert_eq!(rt; depack.next(), Some(1));
+    depack.reset();
+    for (before, frame, kind, handed) in rows {
+        assert_eq!(rt; depack.moved(&moved(before, frame)), None);
+        depack.note(frame, kind);
+        let want = if handed { Some(frame) } else { None };
+        assert_eq!(rt; depack.next(), want);
+    }
+}
