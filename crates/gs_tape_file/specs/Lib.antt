@@ -1,0 +1,3 @@
+pub mod Writer
+pub mod Generated
+pub mod GeneratedLaws
