@@ -1,0 +1,6 @@
+pub mod Examples
+pub mod HeldBytes
+pub mod Keywords
+pub mod LineText
+pub mod OutputLines
+pub mod Steps

@@ -1,0 +1,56 @@
+-- What a run writes: a first word for the kind of each event, and its numbers.
+use Rattle.std.specs.Prelude.{ℕ, ◌<◌, ◌^◌, ⊤, FitsSigned, List, [], ◌∷◌, ◌++◌, codes, map}
+use Rattle.std.specs.Int.{w64}
+use Rattle.std.specs.List.{AllByRecursion}
+use Rattle.std.specs.Fmt.{decimal, signed_decimal}
+use Rattle.gs_bytes.specs.Words.{line_of}
+use Rattle.gs_input.specs.Event.{FitsTypes as EventFits, HasButton}
+use Rattle.gs_input.specs.Line.{name_of, arguments_of}
+use Rattle.gs_schedule.specs.declared.output.Output.{Output}
+use Rattle.gs_schedule.specs.declared.output.Output.TheVariants.{Sent, Ask, Hand, Play, Invalid, Idr, Ended, Input, Full, Closed, Lost, Reset, Total, Done}
+
+-- a word, and numbers without a sign behind it
+abbrev pub counted : List ℕ → List ℕ → List (List ℕ)
+counted name numbers = name ∷ map decimal numbers
+
+-- the words of a line
+abbrev pub output_words : Output → List (List ℕ)
+output_words (Sent session frame kind tick reference) = counted (codes "sent") (session ∷ frame ∷ kind ∷ tick ∷ reference ∷ [])
+output_words (Ask session first last) = counted (codes "ask") (session ∷ first ∷ last ∷ [])
+output_words (Hand session frame kind length) = counted (codes "hand") (session ∷ frame ∷ kind ∷ length ∷ [])
+output_words (Play session unit length) = counted (codes "play") (session ∷ unit ∷ length ∷ [])
+output_words (Invalid session first last) = counted (codes "invalid") (session ∷ first ∷ last ∷ [])
+output_words (Idr session) = counted (codes "idr") (session ∷ [])
+output_words (Ended session first last) = codes "ended" ∷ decimal session ∷ signed_decimal first ∷ signed_decimal last ∷ []
+output_words (Input session channel event) = counted (codes "input") (session ∷ channel ∷ []) ++ name_of event ∷ arguments_of event
+output_words (Full session channel) = counted (codes "full") (session ∷ channel ∷ [])
+output_words (Closed session) = counted (codes "closed") (session ∷ [])
+output_words (Lost session) = counted (codes "lost") (session ∷ [])
+output_words (Reset session) = counted (codes "reset") (session ∷ [])
+output_words (Total session frames handed asks inputs units) =
+    counted (codes "total") (session ∷ frames ∷ handed ∷ asks ∷ inputs ∷ units ∷ [])
+output_words Done = counted (codes "ok") []
+
+-- each number fits 64 bits, an event's its own type, and a button is one
+abbrev pub AreWide : List ℕ → Type 0
+AreWide numbers = AllByRecursion (λ n. n < 2 ^ 64) numbers
+
+abbrev pub FitsTypes : Output → Type 0
+FitsTypes (Sent session frame kind tick reference) = AreWide (session ∷ frame ∷ kind ∷ tick ∷ reference ∷ [])
+FitsTypes (Ask session first last) = AreWide (session ∷ first ∷ last ∷ [])
+FitsTypes (Hand session frame kind length) = AreWide (session ∷ frame ∷ kind ∷ length ∷ [])
+FitsTypes (Play session unit length) = AreWide (session ∷ unit ∷ length ∷ [])
+FitsTypes (Invalid session first last) = AreWide (session ∷ first ∷ last ∷ [])
+FitsTypes (Idr session) = AreWide (session ∷ [])
+FitsTypes (Ended session first last) = (session < 2 ^ 64) × FitsSigned w64 first × FitsSigned w64 last
+FitsTypes (Input session channel event) = AreWide (session ∷ channel ∷ []) × EventFits event × HasButton event
+FitsTypes (Full session channel) = AreWide (session ∷ channel ∷ [])
+FitsTypes (Closed session) = AreWide (session ∷ [])
+FitsTypes (Lost session) = AreWide (session ∷ [])
+FitsTypes (Reset session) = AreWide (session ∷ [])
+FitsTypes (Total session frames handed asks inputs units) = AreWide (session ∷ frames ∷ handed ∷ asks ∷ inputs ∷ units ∷ [])
+FitsTypes Done = ⊤
+
+-- the words parted by one space, and a newline
+abbrev pub output_line : Output → List ℕ
+output_line output = line_of (output_words output) ++ 10 ∷ []
