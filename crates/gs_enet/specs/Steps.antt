@@ -1,0 +1,108 @@
+-- What a side does when its user calls, and when time passes.
+use Rattle.std.specs.Prelude.{ℕ, ◌+◌, ◌-◌, ◌*◌, ◌^◌, ◌%◌, ◌==◌, ◌&&◌, ◌||◌, not, Bool, true, false, if◌then◌else◌, nat_lt, nat_le, min, List, [], ◌∷◌, ◌++◌, find, map, Option, Some, None}
+use Rattle.std.specs.List.{list_any}
+use Rattle.gs_enet.specs.declared.event.PeerEvent.{PeerEvent}
+use Rattle.gs_enet.specs.declared.event.PeerEvent.TheVariants as event
+use Rattle.gs_enet.specs.declared.state.PeerState.{PeerState}
+use Rattle.gs_enet.specs.declared.state.PeerState.TheVariants as state
+use Rattle.gs_enet.specs.Record.{PeerRecord, Message, Order, Unacknowledged, last_number, given_count, is_shut, at_moment, happened, shut, fresh}
+use Rattle.gs_enet.specs.Receive.{leaving}
+
+-- ---- send
+
+-- the number that the next message given on a channel gets
+abbrev pub next_number : PeerRecord → ℕ → ℕ
+next_number r channel = given_count r channel + 1
+
+-- The window of a channel is full: a number of it that isn't acknowledged is 256 below the next. (No number is further below.)
+abbrev pub is_full : PeerRecord → ℕ → Bool
+is_full r channel =
+    list_any (λ (u : Unacknowledged). (u.order.channel == channel) && nat_le (u.order.number + 256) (next_number r channel)) r.unacknowledged
+    || nat_le last_number (next_number r channel)
+
+-- the control channel stands before channel 0
+abbrev pub rank : ℕ → ℕ
+rank channel = (channel + 1) % 256
+
+abbrev pub comes_before : Order → Order → Bool
+comes_before a b = nat_lt (rank a.channel) (rank b.channel) || ((a.channel == b.channel) && nat_lt a.number b.number)
+
+-- a command, put at its place among the others
+abbrev pub placed : Unacknowledged → List Unacknowledged → List Unacknowledged
+placed u [] = u ∷ []
+placed u (v ∷ vs) = if comes_before u.order v.order then u ∷ v ∷ vs else v ∷ placed u vs
+
+-- the message is given, numbered and due
+unfoldable pub with_message : ℕ → List ℕ → PeerRecord → PeerRecord
+with_message channel bytes r =
+    record r {
+      given = r.given ++ (record { channel = channel; bytes = bytes }) ∷ [];
+      unacknowledged = placed (fresh (Message bytes) channel (next_number r channel)) r.unacknowledged;
+    }
+
+abbrev pub is_open : PeerState → Bool
+is_open state.Connected = true
+is_open _ = false
+
+-- a message is given only where the connection is up and the channel's window isn't full
+abbrev pub can_send : PeerRecord → ℕ → Bool
+can_send r channel = is_open r.state && not (is_full r channel)
+
+-- ---- close
+
+abbrev pub close_if : PeerState → PeerRecord → PeerRecord
+close_if state.Connected r = leaving (record r { state = state.Closing })
+close_if _ r = r
+
+-- from Connected the side is closing; it disconnects once all that it sent is acknowledged
+unfoldable pub closed : PeerRecord → PeerRecord
+closed r = close_if r.state r
+
+-- ---- the next event
+
+abbrev pub next_event : PeerRecord → Option PeerEvent
+next_event r = first r.waiting where
+  first : List PeerEvent → Option PeerEvent
+  first [] = None
+  first (e ∷ es) = Some e
+
+abbrev pub telling : List PeerEvent → PeerRecord → PeerRecord
+telling [] r = r
+telling (e ∷ es) r = record r { told = r.told ++ e ∷ []; waiting = es }
+
+-- the event that has waited longest is told
+unfoldable pub told_next : PeerRecord → PeerRecord
+told_next r = telling r.waiting r
+
+-- ---- time
+
+-- how long the n-th writing of a command waits for its acknowledgement: 500 ms, doubling to 4,000 ms
+abbrev pub wait_after : ℕ → ℕ
+wait_after n = min 4000 (500 * 2 ^ (n - 1))
+
+-- the most writings of one command
+abbrev pub most_writes : ℕ
+most_writes = 13
+
+-- the command was written, and its wait has passed
+abbrev pub has_waited : ℕ → Unacknowledged → Bool
+has_waited now u = not u.due && nat_le (u.written + wait_after u.writes) now
+
+-- the command had its last wait
+abbrev pub is_lost : ℕ → Unacknowledged → Bool
+is_lost now u = has_waited now u && nat_le most_writes u.writes
+
+abbrev pub due_again : ℕ → Unacknowledged → Unacknowledged
+due_again now u = record u { due = u.due || has_waited now u }
+
+-- A command that is lost ends the connection; the event names the first. Else each that has waited is due again.
+abbrev pub timed_if : (over : Bool) → Option Unacknowledged → PeerRecord → PeerRecord
+timed_if true lost r = r
+timed_if false (Some u) r = shut (happened (event.Lost u.order.channel u.order.number) r)
+timed_if false None r = record r { unacknowledged = map (due_again r.now) r.unacknowledged }
+
+abbrev pub timed_at : PeerRecord → PeerRecord
+timed_at r = timed_if (is_shut r.state) (find (is_lost r.now) r.unacknowledged) r
+
+unfoldable pub timed : ℕ → PeerRecord → PeerRecord
+timed now r = timed_at (at_moment now r)
