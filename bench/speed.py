@@ -1,0 +1,108 @@
+#!/usr/bin/env python3
+"""Times the proved gsbench side by side with ISA-L and libenet, where these are there.
+
+Run it at the top of the repository after `rt ci` or, in crates/gsbench, `rt run`. A round runs each
+workload of gsbench once and the peers once, one after another; of all rounds the best figure counts.
+A workload is run with two counts, and the difference is taken, so that starting the process and making
+its bytes aren't counted. One table is printed, and nothing is written.
+
+The peers are two small programs, isal_bench and enet_bench, that print lines such as
+`isal_encode_73_15: 2767.433 MB/s`. `--peers FOLDER`, or SPEED_PEERS in the environment, names the
+folder in which they stand, or one with their sources isal_bench.c and enet_bench.c: then they are
+built in a temporary folder over libisal-dev and libenet-dev. What is missing is said, and left out.
+"""
+import argparse
+import os
+import pathlib
+import platform
+import re
+import shutil
+import subprocess
+import sys
+import tempfile
+import time
+
+PROGRAM = pathlib.Path(__file__).resolve().parent.parent / "crates/gsbench/out/gsbench"
+LEN = 1376  # bytes of a shard
+LIBRARIES = {"isal_bench": ["-lisal"], "enet_bench": ["-lenet", "-lpthread"]}
+UNITS = {"GB/s": 1e9, "MB/s": 1e6, "messages/s": 1.0}
+
+# name of the row, words before the count, bytes of data each time, and the peer's line
+CODES = [(73, 15), (212, 43), (8, 2)]
+WORKLOADS = [("mul_add", ["mul_add", LEN], LEN, "isal_mul_add")]
+for d, p in CODES:
+    WORKLOADS.append((f"encode {d} + {p}", ["encode", d, p, LEN], d * LEN, f"isal_encode_{d}_{p}"))
+    WORKLOADS.append((f"restore {p} of {d}", ["restore", d, p, LEN, p], d * LEN, f"isal_restore_rows_known_{d}_{p}"))
+
+
+def seconds(words):
+    begin = time.perf_counter()
+    subprocess.run([PROGRAM, *map(str, words)], stdout=subprocess.DEVNULL, check=True)
+    return time.perf_counter() - begin
+
+
+def count_for(words, least):
+    """A count that takes about as many seconds."""
+    count = 1
+    while (took := seconds([*words, count])) < least / 4:
+        count *= 4
+    return max(1, int(count * least / took))
+
+
+def peers_in(folder, built):
+    """The programs of a folder, built first where only their sources are there."""
+    found = []
+    for name, libraries in LIBRARIES.items():
+        program, source = folder / name, folder / f"{name}.c"
+        if program.is_file():
+            found.append(program)
+        elif source.is_file():
+            words = ["cc", "-O2", "-o", built / name, source, *libraries]
+            if shutil.which("cc") and subprocess.run(words, stderr=subprocess.DEVNULL).returncode == 0:
+                found.append(built / name)
+            else:
+                print(f"{name}: not built (cc, {' '.join(libraries)}), so left out")
+        else:
+            print(f"{name}: not in {folder}, so left out")
+    return found
+
+
+def peer_figures(program):
+    text = subprocess.run([program], capture_output=True, text=True, check=True).stdout
+    return {name: float(n) * UNITS[unit] for name, n, unit in re.findall(r"(\w+): ([\d.]+) (\S+)", text)}
+
+
+def main():
+    words = argparse.ArgumentParser(description=__doc__.splitlines()[0])
+    words.add_argument("--peers", default=os.environ.get("SPEED_PEERS"), help="folder of the peers or their sources")
+    words.add_argument("--rounds", type=int, default=10)
+    words.add_argument("--seconds", type=float, default=0.1, help="of each run of a workload")
+    args = words.parse_args()
+    if not PROGRAM.exists():
+        sys.exit(f"{PROGRAM} is missing: run `rt run` in crates/gsbench first")
+    best, peers = {}, {}
+    with tempfile.TemporaryDirectory() as built:
+        programs = peers_in(pathlib.Path(args.peers), pathlib.Path(built)) if args.peers else []
+        if not args.peers:
+            print("no peers: name their folder by --peers or SPEED_PEERS")
+        counts = {name: count_for(given, args.seconds) for name, given, _, _ in WORKLOADS}
+        for _ in range(args.rounds):
+            for name, given, size, _ in WORKLOADS:
+                more = seconds([*given, counts[name] + 1]) - seconds([*given, 1])
+                best[name] = max(best.get(name, 0), counts[name] * size / more)
+            for program in programs:
+                for line, figure in peer_figures(program).items():
+                    peers[line] = max(peers.get(line, 0), figure)
+    print(f"{platform.machine()}, shards of {LEN} bytes, best of {args.rounds} rounds, MB of data a second")
+    print(f"{'workload':<20}{'gsbench':>10}{'peer':>10}{'ratio':>8}")
+    for name, _, _, line in WORKLOADS:
+        peer = peers.pop(line, None)
+        rest = f"{peer / 1e6:>10.0f}{best[name] / peer:>8.2f}" if peer else f"{'-':>10}{'-':>8}"
+        print(f"{name:<20}{best[name] / 1e6:>10.0f}{rest}")
+    for line, figure in sorted(peers.items()):
+        if line.startswith("enet"):
+            print(f"{line}: {figure:.0f} messages/s")
+
+
+if __name__ == "__main__":
+    main()

@@ -1,0 +1,44 @@
+//! Runs one engine many times on bytes of its own making: `gsbench WORKLOAD NUMBER .. COUNT`.
+//!
+//! | Words | What is done COUNT times |
+//! |---|---|
+//! | `mul_add LEN COUNT` | adds a multiple of LEN bytes to LEN bytes |
+//! | `encode D P LEN COUNT` | writes the P parity shards of D data shards of LEN bytes |
+//! | `parity D P LEN SEED COUNT` | the same, on the bytes that a seed gives |
+//! | `restore D P LEN LOST COUNT` | writes the first LOST of the D data shards anew |
+//!
+//! It prints one line: a checksum of what the last turn left (FNV-1a of 32 bits), and how many bytes of
+//! data were gone through. So the time that it takes is that of a proved program, and no work can be left
+//! out. A word that doesn't fit or is missing is `usage: word W`, counted from 1, with status 2; want
+//! of memory has the status 12.
+#![tactic(auto)]
+
+mod bench;
+mod bytes;
+mod codes;
+mod report;
+mod rows;
+mod words;
+
+use bench::bench;
+use report::Stop;
+use std::process::ExitCode;
+use std::{env, io};
+
+fn main(rt: HostRuntime) -> io::Result<ExitCode> {
+    let words = env::args(&rt)?.skip(1).collect::<Vec<String>>(rt.alloc())?;
+    match bench(rt.alloc(), &words) {
+        Ok(report) => {
+            println!(rt; "checksum {:08x} bytes {}", report.checksum, report.bytes)?;
+            Ok(ExitCode::from(0))
+        }
+        Err(Stop::Usage { word }) => {
+            eprintln!(rt; "usage: word {word}")?;
+            Ok(ExitCode::from(2))
+        }
+        Err(Stop::OutOfMemory) => {
+            eprintln!(rt; "out of memory")?;
+            Ok(ExitCode::from(12))
+        }
+    }
+}
