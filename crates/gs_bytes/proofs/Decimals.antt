@@ -1,10 +1,10 @@
 -- What std prints of a number is a decimal number and stands for it, and nothing else is one.
-use Rattle.std.proofs.Common.{◌≡◌, ◌↔◌, false, length, get_or, sym, ℕ, ◌+◌, ◌-◌, ◌*◌, ◌/◌, ◌%◌, ◌^◌, ◌<◌, ◌≤◌, Bool, true, cond, leb, ltb, List, [], ◌∷◌, ◌++◌, Option, Some, None, refl, ap, ◌∙◌, arith, ◌&&◌}
-use Rattle.std.specs.Fmt.{decimal}
+use Rattle.std.proofs.Common.{◌≡◌, ◌↔◌, false, length, get_or, sym, ℕ, ℤ, FitsSigned, w64, ◌+◌, ◌-◌, ◌*◌, ◌/◌, ◌%◌, ◌^◌, ◌<◌, ◌≤◌, Bool, true, cond, leb, ltb, List, [], ◌∷◌, ◌++◌, Option, Some, None, refl, ap, ◌∙◌, arith, ◌&&◌}
+use Rattle.std.specs.Fmt.{decimal, signed_decimal}
 use Rattle.std.specs.Char.{digit_value}
 use Rattle.std.specs.List.{list_all}
 use Rattle.std.specs.Str.Parse.{AllDigits, digits_value_after}
-use Rattle.std.proofs.lemmas.Fmt.{decimal_by_steps, decimal-digits_value}
+use Rattle.std.proofs.lemmas.Fmt.{decimal_by_steps, decimal-digits_value, decimal_injective, signed_decimal_injective, length-decimal-le}
 use Rattle.std.proofs.lemmas.Str.{digit_value_digit}
 use Rattle.std.proofs.lemmas.Str.Parse.{numerals_by_value, tells_digits}
 use Rattle.std.proofs.lemmas.Bool.{false≢true}
@@ -37,7 +37,8 @@ decimal_digits [] e = refl
 decimal_digits (d ∷ []) e = grind (arith, e)
 decimal_digits (d ∷ c ∷ ds) e = grind (arith, e)
 
-decimal_push : (ds : List ℕ) (c : ℕ) → is_decimal ds ≡ true → ((d : ℕ) (rest : List ℕ) → ds ≡ d ∷ rest → 48 < d) → is_digit c ≡ true → is_decimal (ds ++ c ∷ []) ≡ true
+decimal_push : (ds : List ℕ) (c : ℕ) → is_decimal ds ≡ true → ((d : ℕ) (rest : List ℕ) → ds ≡ d ∷ rest → 48 < d) → is_digit c ≡ true
+    → is_decimal (ds ++ c ∷ []) ≡ true
 decimal_push [] c e first k = absurd (false≢true e)
 decimal_push (d ∷ []) c e first k =
     let large = first d [] refl in
@@ -58,7 +59,8 @@ one_more n ds le s =
       first = λ h. first_of ds s.decimal_is (s.first some);
     }
   where
-    first_of : (ds : List ℕ) → is_decimal ds ≡ true → ((d : ℕ) (rest : List ℕ) → ds ≡ d ∷ rest → 48 < d) → (d : ℕ) (rest : List ℕ) → ds ++ (48 + n % 10) ∷ [] ≡ d ∷ rest → 48 < d
+    first_of : (ds : List ℕ) → is_decimal ds ≡ true → ((d : ℕ) (rest : List ℕ) → ds ≡ d ∷ rest → 48 < d) → (d : ℕ) (rest : List ℕ)
+        → ds ++ (48 + n % 10) ∷ [] ≡ d ∷ rest → 48 < d
     first_of [] e first d rest h = absurd (false≢true e)
     first_of (c ∷ ds) e first d rest h = let byte : c ≡ d = cc in let large = first c ds refl in omega arith
 
@@ -76,7 +78,8 @@ decimal_up_to-decimal most n le lt =
     let a = decimal_is_decimal n lt in
     let v = number_of-decimal n lt in
     let test : leb (number_of (decimal n)) most ≡ true = grind (arith, nat_tests) in
-    ap (λ (b : Bool). cond (b && leb (number_of (decimal n)) most) (Some (number_of (decimal n))) None) a ∙ ap (λ (b : Bool). cond b (Some (number_of (decimal n))) None) test ∙ ap (λ (k : ℕ). some k) v
+    ap (λ (b : Bool). cond (b && leb (number_of (decimal n)) most) (Some (number_of (decimal n))) None) a
+    ∙ ap (λ (b : Bool). cond b (Some (number_of (decimal n))) None) test ∙ ap (λ (k : ℕ). some k) v
   where
     some : ℕ → Option ℕ
     some k = Some k
@@ -120,10 +123,11 @@ decimal_is_printed ds e small =
 -- ---- what a reader up to a limit answers
 
 -- the answer is the number that a word spells, if it spells one up to the limit
-abbrev pub Answers : ℕ → List ℕ → Option ℕ → Type 0
-Answers most word r = (n : ℕ) → (r ≡ Some n) ↔ SpellsNumber (most + 1) word n
+abbrev pub IsReadUpTo : ℕ → List ℕ → Option ℕ → Type 0
+IsReadUpTo most word r = (n : ℕ) → (r ≡ Some n) ↔ SpellsNumber (most + 1) word n
 
-over : (most : ℕ) (word : List ℕ) → most < 2 ^ 32 → ((n : ℕ) → SpellsNumber (most + 1) word n → ⊥) → (a b : Bool) → is_decimal word ≡ a → leb (number_of word) most ≡ b
+over : (most : ℕ) (word : List ℕ) → most < 2 ^ 32 → ((n : ℕ) → SpellsNumber (most + 1) word n → ⊥) → (a b : Bool) → is_decimal word ≡ a
+    → leb (number_of word) most ≡ b
     → cond (a && b) (Some (number_of word)) None ≡ None
 over most word small none false b ea eb = refl
 over most word small none true false ea eb = refl
@@ -132,8 +136,9 @@ over most word small none true true ea eb =
     absurd (none (number_of word) (omega arith, decimal_is_printed word ea (omega arith)))
 
 -- that is what the definition computes
-pub answers_value : (most : ℕ) (word : List ℕ) (r : Option ℕ) → most < 2 ^ 32 → Answers most word r → r ≡ decimal_up_to most word
-answers_value most word None small h = sym (over most word small (λ n spelled. let e = (h n).1 spelled in absurd cc) (is_decimal word) (leb (number_of word) most) refl refl)
+pub answers_value : (most : ℕ) (word : List ℕ) (r : Option ℕ) → most < 2 ^ 32 → IsReadUpTo most word r → r ≡ decimal_up_to most word
+answers_value most word None small h = sym (over most word small (λ n spelled. let e = (h n).1 spelled in absurd cc) (is_decimal word)
+    (leb (number_of word) most) refl refl)
 answers_value most word (Some n) small h =
     let spelled = (h n).0 refl in
     let le : n ≤ most = omega (arith, spelled.0) in
@@ -141,12 +146,12 @@ answers_value most word (Some n) small h =
 
 -- a reader of 32 bits and a test against the limit
 pub answers_none : (most : ℕ) (word : List ℕ) (o : Option ℕ) → most < 2 ^ 32 → ((n : ℕ) → (o ≡ Some n) ↔ SpellsNumber (2 ^ 32) word n)
-    → ((n : ℕ) → o ≡ Some n → most < n) → Answers most word None
+    → ((n : ℕ) → o ≡ Some n → most < n) → IsReadUpTo most word None
 answers_none most word o small read far n =
     (λ e. absurd cc, λ spelled. let e = (read n).1 (omega (arith, spelled.0), spelled.1) in let lt = far n e in absurd (omega (arith, spelled.0)))
 
 pub answers_some : (most : ℕ) (word : List ℕ) (o : Option ℕ) (k : ℕ) → most < 2 ^ 32 → ((n : ℕ) → (o ≡ Some n) ↔ SpellsNumber (2 ^ 32) word n)
-    → o ≡ Some k → k ≤ most → Answers most word (Some k)
+    → o ≡ Some k → k ≤ most → IsReadUpTo most word (Some k)
 answers_some most word o k small read is le n =
     let spelled = (read k).0 is in (
       λ e. let same : k ≡ n = cc in (omega (arith, same), spelled.1 ∙ ap decimal same),
@@ -159,3 +164,15 @@ none_is_far most o none n e = absurd cc
 
 pub some_is_far : (most : ℕ) (o : Option ℕ) (k : ℕ) → o ≡ Some k → most < k → (n : ℕ) → o ≡ Some n → most < n
 some_is_far most o k is lt n e = let same : k ≡ n = cc in omega arith
+
+-- ---- one spelling, one number
+
+pub decimal_once : (m n : ℕ) → m < 2 ^ 32 → n < 2 ^ 32 → decimal m ≡ decimal n → m ≡ n
+decimal_once m n lm ln e = decimal_injective m n (omega arith) (omega arith) e
+
+pub signed_decimal_once : (y z : ℤ) → FitsSigned w64 y → FitsSigned w64 z → signed_decimal y ≡ signed_decimal z → y ≡ z
+signed_decimal_once y z fy fz e = signed_decimal_injective y z (omega (arith, fy.sfits)) (omega (arith, fz.sfits)) e
+
+-- a number of 32 bits takes ten digits at most
+pub length-decimal_most : (n : ℕ) → n < 2 ^ 32 → length (decimal n) ≤ 10
+length-decimal_most n below = length-decimal-le 10 n (omega arith) (omega arith) (omega arith)

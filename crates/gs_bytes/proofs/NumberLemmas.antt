@@ -33,14 +33,16 @@ plain : (word : List ℕ) → begins_plainly word ≡ true → Plain word
 plain word h = record { low = grind (arith, nat_tests); high = grind (arith, nat_tests); single = grind (arith, nat_tests) }
 
 -- what a word that begins plainly is parsed to is the number that it spells
-pub parsed_is_spelled : {E : Type 0} (word : List ℕ) (r : Result ℕ E) → begins_plainly word ≡ true → ParsesUnsigned 32 10 word r → (n : ℕ) → (result_ok r ≡ Some n) ↔ SpellsNumber (2 ^ 32) word n
+pub parsed_is_spelled : {E : Type 0} (word : List ℕ) (r : Result ℕ E) → begins_plainly word ≡ true → ParsesUnsigned 32 10 word r → (n : ℕ)
+    → (result_ok r ≡ Some n) ↔ SpellsNumber (2 ^ 32) word n
 parsed_is_spelled {E} word (Ok x) h parsed n =
     let p = plain word h in
     let first : get_or word 0 0 ≢ 43 = λ e. absurd (omega (arith, p.low)) in
     let ok = parse_plain numerals {E = E} 32 word (Ok x) parsed first in
     let written : decimal (digits_value 10 word) ≡ word = decimal-digits_value numerals word ok.0.0 ok.0.1 p.single (omega (arith, ok.0.2)) in (
       λ e. let same : x ≡ n = cc in (omega (arith, ok.0.2, ok.1), sym written ∙ ap decimal (sym ok.1 ∙ same)),
-      λ spelled. let v : digits_value 10 word ≡ n = ap (digits_value 10) spelled.1 ∙ digits_value-decimal numerals n (omega (arith, spelled.0)) in ap (λ (y : ℕ). Some y) (ok.1 ∙ v),
+      λ spelled. let v : digits_value 10 word ≡ n = ap (digits_value 10) spelled.1
+          ∙ digits_value-decimal numerals n (omega (arith, spelled.0)) in ap (λ (y : ℕ). Some y) (ok.1 ∙ v),
     )
 parsed_is_spelled {E} word (Err e) h parsed n =
     let p = plain word h in
@@ -76,7 +78,8 @@ dropped P Q (Ok y) o made is given = absurd cc
 dropped P Q (Err e) o made is given = (e, given)
 
 -- no number where none is spelled
-pub none_is_spelled : (word : List ℕ) (o : Option ℕ) → o ≡ None → ((n : ℕ) → SpellsNumber (2 ^ 32) word n → ⊥) → (n : ℕ) → (o ≡ Some n) ↔ SpellsNumber (2 ^ 32) word n
+pub none_is_spelled : (word : List ℕ) (o : Option ℕ) → o ≡ None → ((n : ℕ) → SpellsNumber (2 ^ 32) word n → ⊥) → (n : ℕ)
+    → (o ≡ Some n) ↔ SpellsNumber (2 ^ 32) word n
 none_is_spelled word o is none n = (λ e. absurd cc, λ spelled. absurd (none n spelled))
 
 -- the first byte of a number is no '-'
@@ -84,7 +87,8 @@ first_of_decimal : (n : ℕ) → n < 2 ^ 64 → 48 ≤ get_or (decimal n) 0 0
 first_of_decimal n small = (plain (decimal n) (decimal_begins_plainly n small)).low
 
 -- a word that begins with '-' spells what is below 0 by the number that the rest spells
-pub minus_spells : (word digits : List ℕ) (z : ℤ) → word ≡ 45 ∷ digits → SpellsSigned word z → (below : ℕ) × (z ≡ negsuc below) × SpellsNumber (2 ^ 32) digits (suc below) × (below < 2 ^ 15)
+pub minus_spells : (word digits : List ℕ) (z : ℤ) → word ≡ 45 ∷ digits → SpellsSigned word z
+    → (below : ℕ) × (z ≡ negsuc below) × SpellsNumber (2 ^ 32) digits (suc below) × (below < 2 ^ 15)
 minus_spells word digits (pos n) e spelled =
     let small : n < 2 ^ 15 = omega (arith, spelled.0.sfits) in
     let first = first_of_decimal n (omega arith) in

@@ -47,7 +47,8 @@ without_first-none (b ∷ s) h =
 
 pub without_last-none : (s : List ℕ) → ((front : List ℕ) → s ≡ front ++ 32 ∷ [] → ⊥) → without_last_spaces s ≡ s
 without_last-none s last =
-    ap reverse (without_first-none (reverse s) (λ rest h. last (reverse rest) (sym (reverse-reverse s) ∙ ap reverse h ∙ reverse-append (32 ∷ []) rest))) ∙ reverse-reverse s
+    ap reverse (without_first-none (reverse s) (λ rest h. last (reverse rest) (sym (reverse-reverse s) ∙ ap reverse h ∙ reverse-append (32 ∷ []) rest)))
+    ∙ reverse-reverse s
 
 pub without_first-spaces : (k : ℕ) (s : List ℕ) → BeginsWithoutSpace s → without_first_spaces (spaces k ++ s) ≡ s
 without_first-spaces zero s h = without_first-none s h
@@ -74,7 +75,8 @@ trims s =
     let t = without_first_spaces s in
     let b = leading (reverse t) in
     let u = without_first_spaces (reverse t) in
-    let t-is : t ≡ reverse u ++ spaces b.count = sym (reverse-reverse t) ∙ ap reverse b.parts ∙ reverse-append (spaces b.count) u ∙ ap (λ (v : List ℕ). reverse u ++ v) (reverse-spaces b.count) in
+    let t-is : t ≡ reverse u ++ spaces b.count = sym (reverse-reverse t) ∙ ap reverse b.parts ∙ reverse-append (spaces b.count) u
+    ∙ ap (λ (v : List ℕ). reverse u ++ v) (reverse-spaces b.count) in
     record {
       before = a.count;
       after = b.count;
@@ -98,13 +100,20 @@ first_is c u t rest h = cc
 
 trimmed_by : (before after : ℕ) (v u : List ℕ) → HasNoOuterSpace v → v ≡ u → trimmed (spaces before ++ v ++ spaces after) ≡ v
 trimmed_by before after v [] outer e =
-    let all : spaces before ++ v ++ spaces after ≡ spaces (before + after) = ap (λ (t : List ℕ). spaces before ++ t ++ spaces after) e ∙ ap (λ (t : List ℕ). t ++ spaces after) (append-nil (spaces before)) ∙ spaces-add before after in
+    let all : spaces before ++ v ++ spaces after ≡ spaces (before + after) = ap (λ (t : List ℕ). spaces before ++ t ++ spaces after) e
+    ∙ ap (λ (t : List ℕ). t ++ spaces after) (append-nil (spaces before)) ∙ spaces-add before after in
     ap trimmed all ∙ ap (λ (t : List ℕ). reverse (without_first_spaces (reverse t))) (only_spaces (before + after)) ∙ sym e
 trimmed_by before after v (c ∷ u) outer e =
-    let first : without_first_spaces (spaces before ++ v ++ spaces after) ≡ v ++ spaces after = ap without_first_spaces (append_assoc (spaces before) v (spaces after)) ∙ without_first-spaces before (v ++ spaces after) (λ rest h. outer.first u (e ∙ ap (λ (n : ℕ). n ∷ u) (first_is c u (spaces after) rest (ap (λ (t : List ℕ). t ++ spaces after) (sym e) ∙ h)))) in
-    let turned : reverse (v ++ spaces after) ≡ spaces after ++ reverse v = reverse-append v (spaces after) ∙ ap (λ (t : List ℕ). t ++ reverse v) (reverse-spaces after) in
-    let second : without_first_spaces (spaces after ++ reverse v) ≡ reverse v = without_first-spaces after (reverse v) (λ rest h. outer.last (reverse rest) (sym (reverse-reverse v) ∙ ap reverse h ∙ reverse-append (32 ∷ []) rest)) in
-    ap (λ (t : List ℕ). reverse (without_first_spaces (reverse t))) first ∙ ap (λ (t : List ℕ). reverse (without_first_spaces t)) turned ∙ ap reverse second ∙ reverse-reverse v
+    let first : without_first_spaces (spaces before ++ v ++ spaces after) ≡ v ++ spaces after =
+    ap without_first_spaces (append_assoc (spaces before) v (spaces after))
+    ∙ without_first-spaces before (v ++ spaces after) (λ rest h. outer.first u
+    (e ∙ ap (λ (n : ℕ). n ∷ u) (first_is c u (spaces after) rest (ap (λ (t : List ℕ). t ++ spaces after) (sym e) ∙ h)))) in
+    let turned : reverse (v ++ spaces after) ≡ spaces after ++ reverse v =
+    reverse-append v (spaces after) ∙ ap (λ (t : List ℕ). t ++ reverse v) (reverse-spaces after) in
+    let second : without_first_spaces (spaces after ++ reverse v) ≡ reverse v =
+    without_first-spaces after (reverse v) (λ rest h. outer.last (reverse rest) (sym (reverse-reverse v) ∙ ap reverse h ∙ reverse-append (32 ∷ []) rest)) in
+    ap (λ (t : List ℕ). reverse (without_first_spaces (reverse t))) first ∙ ap (λ (t : List ℕ). reverse (without_first_spaces t)) turned ∙ ap reverse second
+    ∙ reverse-reverse v
 
 pub trimmed-spaces : (before after : ℕ) (v : List ℕ) → HasNoOuterSpace v → trimmed (spaces before ++ v ++ spaces after) ≡ v
 trimmed-spaces before after v outer = trimmed_by before after v v outer refl

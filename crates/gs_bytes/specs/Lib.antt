@@ -1,6 +1,9 @@
 pub mod Field
+pub mod Limits
+pub mod Link
 pub mod Memory
 pub mod NumberForms
 pub mod Numbers
 pub mod Outside
+pub mod Told
 pub mod Words

@@ -26,7 +26,11 @@ with_fault c = record { fails = c.fails; made = c.made; faults = count_up c.faul
 
 -- the next call was made, and failed where it was to fail
 abbrev pub after_call : Calls → Calls
-after_call c = record { fails = c.fails; made = count_up c.made; faults = if next_fails c then count_up c.faults else c.faults }
+after_call c = record {
+  fails = c.fails;
+  made = count_up c.made;
+  faults = if next_fails c then count_up c.faults else c.faults;
+}
 
 -- bytes to read: those that are left, those that were read, and whether a read met the end
 pub record Reading : Type 0 where

@@ -1,7 +1,7 @@
 -- What the calls of an object of the outside do to its count of faults and to its end. What was
 -- read, written and is left is said by std's words on bytes that may be unknown.
 use Rattle.std.specs.Prelude.{◌≡◌, ◌<◌, List, length, take, ℕ, zero, suc, ◌+◌, ◌-◌, ◌^◌, ◌≤◌, min, Bool, true, Option, None, Some, Result, Ok, Err, ⊤}
-use Rattle.std.specs.Io.KnownBytes.{Appends, Consumes}
+use Rattle.std.specs.Io.KnownBytes.{Appends}
 use Rattle.gs_bytes.specs.declared.failed.Failed.{Failed}
 use Rattle.gs_bytes.specs.declared.failed.Failed.TheVariants.{Fault, NoMemory}
 
@@ -43,8 +43,3 @@ MeetsEnd before now (Err e) = KeepsFlag before now
 -- some of the bytes were appended from their front, and not all of them
 abbrev pub AppendsPart : Option (List ℕ) → Option (List ℕ) → List ℕ → Type 0
 AppendsPart old new bytes = (n : ℕ) × (n < length bytes) × Appends old new (take n bytes)
-
--- at most so many bytes were read, which are gone from what was left
-abbrev pub TakesUpTo : ℕ → Option (List ℕ) → Option (List ℕ) → Option (List ℕ) → Option (List ℕ) → Type 0
-TakesUpTo most left left' taken taken' =
-    (bytes : List ℕ) × (length bytes ≤ most) × Consumes left left' bytes × Appends taken taken' bytes

@@ -1,14 +1,14 @@
 //! Fields in network byte order: the highest byte first.
 
 ghost use Rattle.std.specs.Prelude.{◌≡◌, ◌+◌, ◌++◌, ◌≤◌, drop, length, take};
-ghost use Rattle.gs_bytes.specs.Field.{be_bytes, be_value};
+ghost use Rattle.gs_bytes.specs.Field.{big_bytes, big_from};
 
 use byteorder::{BigEndian, ByteOrder};
 
 /// The number in the 2 bytes at `place`.
 pub fn read_u16_be(bytes: &[u8], place: usize) -> u16
     requires { place + 2 ≤ length bytes.now }
-    ensures { result ≡ be_value 2 place bytes.now }
+    ensures { result ≡ big_from place 2 bytes.now }
 {
     BigEndian::read_u16(&bytes[place..])
 }
@@ -16,7 +16,7 @@ pub fn read_u16_be(bytes: &[u8], place: usize) -> u16
 /// Writes the number into the 2 bytes at `place`.
 pub fn write_u16_be(out: &mut [u8], place: usize, value: u16)
     requires { place + 2 ≤ length out.old }
-    ensures { out.new ≡ take place out.old ++ be_bytes 2 value ++ drop (place + 2) out.old }
+    ensures { out.new ≡ take place out.old ++ big_bytes 2 value ++ drop (place + 2) out.old }
 {
     BigEndian::write_u16(&mut out[place..], value);
 }
@@ -24,7 +24,7 @@ pub fn write_u16_be(out: &mut [u8], place: usize, value: u16)
 /// The number in the 4 bytes at `place`.
 pub fn read_u32_be(bytes: &[u8], place: usize) -> u32
     requires { place + 4 ≤ length bytes.now }
-    ensures { result ≡ be_value 4 place bytes.now }
+    ensures { result ≡ big_from place 4 bytes.now }
 {
     BigEndian::read_u32(&bytes[place..])
 }
@@ -32,7 +32,7 @@ pub fn read_u32_be(bytes: &[u8], place: usize) -> u32
 /// Writes the number into the 4 bytes at `place`.
 pub fn write_u32_be(out: &mut [u8], place: usize, value: u32)
     requires { place + 4 ≤ length out.old }
-    ensures { out.new ≡ take place out.old ++ be_bytes 4 value ++ drop (place + 4) out.old }
+    ensures { out.new ≡ take place out.old ++ big_bytes 4 value ++ drop (place + 4) out.old }
 {
     BigEndian::write_u32(&mut out[place..], value);
 }
@@ -40,7 +40,7 @@ pub fn write_u32_be(out: &mut [u8], place: usize, value: u32)
 /// The number in the 8 bytes at `place`.
 pub fn read_u64_be(bytes: &[u8], place: usize) -> u64
     requires { place + 8 ≤ length bytes.now }
-    ensures { result ≡ be_value 8 place bytes.now }
+    ensures { result ≡ big_from place 8 bytes.now }
 {
     BigEndian::read_u64(&bytes[place..])
 }
@@ -48,7 +48,7 @@ pub fn read_u64_be(bytes: &[u8], place: usize) -> u64
 /// Writes the number into the 8 bytes at `place`.
 pub fn write_u64_be(out: &mut [u8], place: usize, value: u64)
     requires { place + 8 ≤ length out.old }
-    ensures { out.new ≡ take place out.old ++ be_bytes 8 value ++ drop (place + 8) out.old }
+    ensures { out.new ≡ take place out.old ++ big_bytes 8 value ++ drop (place + 8) out.old }
 {
     BigEndian::write_u64(&mut out[place..], value);
 }

@@ -16,17 +16,23 @@
 //!   counted one.
 #![tactic(auto)]
 
+mod addr;
 mod big_endian;
 mod calls;
 mod failed;
 mod field;
+mod limits;
+mod link;
+mod link_queue;
 mod little_endian;
+mod mem_link;
 mod mem_sink;
 mod mem_source;
 mod number;
 mod out_of_memory;
 mod outside;
 mod spaces;
+mod sure_link;
 mod sure_sink;
 mod sure_source;
 mod text;
@@ -35,22 +41,27 @@ mod whole;
 mod words;
 mod written;
 
+pub use addr::Addr;
 pub use big_endian::{
     read_u16_be, read_u32_be, read_u64_be, write_u16_be, write_u32_be, write_u64_be,
 };
 pub use calls::CallPlan;
 pub use failed::Failed;
 pub use field::field_reads_back;
+pub use limits::{MOST_AUDIO, MOST_ON_LINK, MOST_UNIT};
+pub use link::{Arrived, Link, LinkEntry, Waiting};
 pub use little_endian::{
     read_i64_le, read_u16_le, read_u32_le, read_u64_le, write_i64_le, write_u16_le, write_u32_le,
     write_u64_le,
 };
+pub use mem_link::MemLink;
 pub use mem_sink::MemSink;
 pub use mem_source::MemSource;
 pub use number::{parse_number, parse_signed};
 pub use out_of_memory::OutOfMemory;
 pub use outside::{Outside, Sink, Source};
 pub use spaces::{trim, trim_end, trim_start};
+pub use sure_link::SureLink;
 pub use sure_sink::SureSink;
 pub use sure_source::SureSource;
 pub use text::Text;

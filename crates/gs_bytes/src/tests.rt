@@ -155,3 +155,42 @@ fn spaces_part_words(rt: HostRuntime) {
     assert_eq!(rt; trim_start(b"  a b "), b"a b ".as_slice());
     assert_eq!(rt; trim_end(b"  "), b"".as_slice());
 }
+
+#[test]
+fn a_link_notes_what_it_does(rt: HostRuntime) -> Result<(), Fail> {
+    let host = Addr { ip: 1, port: 2 };
+    let client = Addr { ip: 3, port: 4 };
+    let mut link = MemLink::new(rt.alloc(), &[3])?;
+    let mut into = [0u8; MOST_ON_LINK];
+    link.give(client, b"ab")?;
+    assert!(rt; link.put(host, b"xyz") == Ok(()));
+    let two = Arrived::Datagram {
+        from: client,
+        length: 2,
+    };
+    assert!(rt; link.take(&mut into) == Ok(two));
+    assert!(rt; into[..2] == [97, 98]);
+    assert!(rt; link.take(&mut into) == Err(Failed::Fault));
+    assert!(rt; link.take(&mut into) == Ok(Arrived::Nothing));
+    assert!(rt; link.take(&mut into) == Ok(Arrived::Nothing));
+    assert!(rt; link.faults() == 1);
+    assert!(rt; link.entries().len() == 3);
+    Ok(())
+}
+
+#[test]
+fn a_sure_link_notes_what_it_does(rt: HostRuntime) -> Result<(), Fail> {
+    let host = Addr { ip: 1, port: 2 };
+    let mut link = SureLink::new(rt.alloc())?;
+    let mut into = [0u8; MOST_ON_LINK];
+    assert!(rt; link.take(&mut into) == Ok(Arrived::Nothing));
+    link.give(host, b"")?;
+    let empty = Arrived::Datagram {
+        from: host,
+        length: 0,
+    };
+    assert!(rt; link.take(&mut into) == Ok(empty));
+    assert!(rt; link.put(host, &[7]) == Ok(()));
+    assert!(rt; link.entries().len() == 3);
+    Ok(())
+}

@@ -1,7 +1,7 @@
-use Rattle.gs_bytes.specs.Field.{be_bytes}
+use Rattle.gs_bytes.specs.Field.{big_bytes}
 use Rattle.gs_bytes.proofs.FieldLemmas.{put_mid_field}
 use Rattle.gs_bytes.proofs.big_endian.write_u16_be.Goals as goal
 
 pub returns : goal.returns
 returns c =
-    put_mid_field c.args.place 2 c.args.out.now (be_bytes 2 c.args.value) c.write_u16.new.buf c.requires c.write_u16.ensures
+    put_mid_field c.args.place 2 c.args.out.now (big_bytes 2 c.args.value) c.write_u16.new.buf c.requires c.write_u16.ensures

@@ -14,4 +14,5 @@ returns-in_err-ok c =
 pub returns : goal.returns
 returns c = λ n.
     let text = kept _ _ c.from_utf8.result c.ok.result c.in_ok-ok.field-0 c.ok.ensures.value c.in_ok-ok.was c.from_utf8.ensures.cases in
-    rw c.ok-2.ensures.value (parsed_is_spelled c.args.word.now c.parse.result (cc) (subst (λ (bs : List ℕ). ParsesUnsigned 32 10 bs c.parse.result) text.0 c.parse.ensures.value.0) n)
+    rw c.ok-2.ensures.value (parsed_is_spelled c.args.word.now c.parse.result (cc)
+    (subst (λ (bs : List ℕ). ParsesUnsigned 32 10 bs c.parse.result) text.0 c.parse.ensures.value.0) n)

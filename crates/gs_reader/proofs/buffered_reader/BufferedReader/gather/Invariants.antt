@@ -12,7 +12,8 @@ invariant-pieces g l =
     let told = g.S.Outside in
     record {
       within : vec_len l.bytes ≤ l.n;
-      handed : HandsOn l.initial.self l.self (told.left l.initial.source) (told.left l.source) (told.taken l.initial.source) (told.taken l.source) l.bytes.items;
+      handed : HandsOn l.initial.self l.self (told.left l.initial.source) (told.left l.source) (told.taken l.initial.source)
+          (told.taken l.source) l.bytes.items;
       end : KeepsFlag (told.met_end l.initial.source) (told.met_end l.source);
       written : Keeps (told.written l.initial.source) (told.written l.source);
       counted : told.faults l.source ≡ told.faults l.initial.source;

@@ -1,0 +1,15 @@
+-- The limits that crates share which don't stand on each other.
+use Rattle.std.specs.Prelude.{ℕ}
+use Rattle.gs_bytes.specs.declared.limits.TheConstants.{MOST_UNIT, MOST_AUDIO, MOST_ON_LINK}
+
+-- bytes of one video unit
+abbrev pub most_unit : ℕ
+most_unit = MOST_UNIT
+
+-- bytes of one audio unit
+abbrev pub most_audio : ℕ
+most_audio = MOST_AUDIO
+
+-- bytes of one datagram on a link
+abbrev pub most_on_link : ℕ
+most_on_link = MOST_ON_LINK

@@ -1,0 +1,10 @@
+//! The limits that crates share which don't stand on each other.
+
+/// Bytes of one video unit, in a capture file and in a frame.
+pub const MOST_UNIT: u32 = 4_000_000;
+
+/// Bytes of one audio unit, in a capture file and in the payload of a datagram.
+pub const MOST_AUDIO: u16 = 1_400;
+
+/// Bytes of one datagram on a link.
+pub const MOST_ON_LINK: usize = 4_096;
