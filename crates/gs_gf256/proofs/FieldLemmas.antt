@@ -56,7 +56,8 @@ product_comm a b ha hb =
     same_from_powers 8 (product (2 ^ i)) (λ y. product y (2 ^ i)) (by_first (2 ^ i)) (by_second (2 ^ i)) (λ j hj.
     eqb-true _ _ (at_below 8 _ (at_below 8 _ comm_test i hi) j hj)) b hb) a ha
 
-assoc_test : all_below 8 (λ i. all_below 8 (λ j. all_below 8 (λ k. eqb (product (product (2 ^ i) (2 ^ j)) (2 ^ k)) (product (2 ^ i) (product (2 ^ j) (2 ^ k)))))) ≡ true
+assoc_test : all_below 8 (λ i. all_below 8 (λ j. all_below 8 (λ k.
+    eqb (product (product (2 ^ i) (2 ^ j)) (2 ^ k)) (product (2 ^ i) (product (2 ^ j) (2 ^ k)))))) ≡ true
 unfolding all_below product polynomial_product remainder
 assoc_test = refl
 

@@ -10,7 +10,9 @@ low_by_low_test : all_below 16 (λ j. all_below 16 (λ i. eqb (get_or LOW_BY_LOW
 unfolding all_below product polynomial_product remainder
 low_by_low_test = refl
 
-high_by_low_test : all_below 16 (λ j. all_below 16 (λ i. eqb (get_or HIGH_BY_LOW (j * 16 + i) 0) (product (j * 16) i) && eqb (get_or HIGH_BY_LOW (j * 16 + i) 0) (product j (i * 16)))) ≡ true
+high_by_low_test : all_below 16 (λ j. all_below 16 (λ i.
+    eqb (get_or HIGH_BY_LOW (j * 16 + i) 0) (product (j * 16) i)
+    && eqb (get_or HIGH_BY_LOW (j * 16 + i) 0) (product j (i * 16)))) ≡ true
 unfolding all_below product polynomial_product remainder
 high_by_low_test = refl
 

@@ -7,3 +7,4 @@ pub mod Powers
 pub mod Inverses
 pub mod LaneLemmas
 pub mod HalfTables
+pub mod RowSums

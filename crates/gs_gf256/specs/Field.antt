@@ -1,5 +1,5 @@
--- GF(2^8), the field with 256 elements. A byte is a polynomial over GF(2) of degree below 8: bit i is the coefficient of
--- x^i. The sum is xor, and the product is the product of polynomials modulo x^8 + x^4 + x^3 + x^2 + 1.
+-- GF(2^8), the field with 256 elements. A byte is a polynomial over GF(2) of degree below 8: bit i is the coefficient
+-- of x^i. The sum is xor, and the product is the product of polynomials modulo x^8 + x^4 + x^3 + x^2 + 1.
 use Rattle.std.specs.Prelude.{◌≡◌, ℕ, zero, suc, ◌+◌, ◌*◌, ◌^◌, ◌<◌, if◌then◌else◌, ◌==◌, bit_xor}
 use Rattle.std.specs.Int.{bit_at}
 

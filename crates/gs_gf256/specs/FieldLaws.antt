@@ -28,7 +28,8 @@ abbrev pub ProductIsCommutative : Type 0
 ProductIsCommutative = (a b : ℕ) → IsByte a → IsByte b → product a b ≡ product b a
 
 abbrev pub ProductDistributes : Type 0
-ProductDistributes = (a b c : ℕ) → IsByte a → IsByte b → IsByte c → product a (bit_xor b c) ≡ bit_xor (product a b) (product a c)
+ProductDistributes = (a b c : ℕ) → IsByte a → IsByte b → IsByte c
+    → product a (bit_xor b c) ≡ bit_xor (product a b) (product a c)
 
 abbrev pub OneIsNeutral : Type 0
 OneIsNeutral = (a : ℕ) → IsByte a → product a 1 ≡ a

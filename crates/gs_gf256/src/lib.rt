@@ -2,8 +2,8 @@
 //!
 //! A byte is a polynomial over GF(2): bit i is the coefficient of x^i. The sum of two bytes is their
 //! xor. `mul`, `inv` and `mul_add` give the product, the inverse and a sum of products exactly as the
-//! definitions in specs/Field.antt say, which know of no table. `sum_pair` adds the products of many
-//! shards for two rows at once, by tables that `write_table` makes. `field_laws` promises that these
+//! definitions in specs/Field.antt say, which know of no table. `sum_two` and `sum_four` add the
+//! products of many shards for two or four rows at once, by tables that `write_table` makes. `field_laws` promises that these
 //! are the sum and the product of a field. No call takes memory.
 //!
 //! A product is found by the halves of a byte: the table of a factor has its products with the sixteen
@@ -23,5 +23,5 @@ mod tests;
 pub use field::{inv, mul};
 pub use lanes::{BLOCK_LEN, write_block};
 pub use laws::field_laws;
-pub use sums::{mul_add, sum_pair};
+pub use sums::{mul_add, sum_four, sum_two};
 pub use table::{TABLE_LEN, write_table};

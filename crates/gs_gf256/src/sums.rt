@@ -15,8 +15,8 @@ ghost use Rattle.std.specs.Prelude.{
   All,
   bit_xor,
 };
-ghost use Rattle.gs_gf256.specs.Field.{product, field_sum};
-ghost use Rattle.gs_gf256.specs.Table.{times};
+ghost use Rattle.gs_gf256.specs.Field.{product};
+ghost use Rattle.gs_gf256.specs.Table.{times, IsRowOfSums};
 
 use crate::lanes::{BLOCK_LEN, high_halves, load, look_up, low_halves, sum, write_block};
 use crate::table::{HALF_LEN, TABLE_LEN, write_table};
@@ -114,11 +114,11 @@ fn add_rest(dst: &mut [u8], src: &[u8], from: usize, table: &[u8])
 
 /// Two sums for each place of a block: the bytes at it of the numbered shards, each times a factor.
 ///
-/// The shards are laid end to end, each of `len` bytes, and the block begins at `at` in each. Shard
-/// number i of the list has two factors: their tables (`write_table`) stand one behind the other, from
-/// place 2 * `TABLE_LEN` * i on. So two rows share one reading of the shards.
+/// The shards are laid end to end, each of `len` bytes, and the block begins at `at` in each. Shard i
+/// of the list has two factors: their tables (`write_table`) stand one behind the other, those of shard
+/// i from place 2 * `TABLE_LEN` * i on. So two rows share one reading of the shards.
 #[inline]
-pub fn sum_pair(
+pub fn sum_two(
     shards: &[u8],
     len: usize,
     numbers: &[u8],
@@ -127,18 +127,8 @@ pub fn sum_pair(
 ) -> (u8x32, u8x32)
     requires shards_size { All (λ number. number * len + (at + BLOCK_LEN) ≤ length shards.now) numbers.now }
     requires tables_size { length numbers.now * 64 ≤ length tables.now }
-    ensures first_size { length result.0 ≡ BLOCK_LEN }
-    ensures second_size { length result.1 ≡ BLOCK_LEN }
-    ensures first { (j : ℕ) → j < BLOCK_LEN
-        → slice_index result.0 j
-        ≡ field_sum
-        (λ i. times tables.now (i * 64) (slice_index shards.now (slice_index numbers.now i * len + (at + j))))
-        (length numbers.now) }
-    ensures second { (j : ℕ) → j < BLOCK_LEN
-        → slice_index result.1 j
-        ≡ field_sum
-        (λ i. times tables.now (i * 64 + 32) (slice_index shards.now (slice_index numbers.now i * len + (at + j))))
-        (length numbers.now) }
+    ensures first { IsRowOfSums shards.now len numbers.now at tables.now 2 0 result.0 }
+    ensures second { IsRowOfSums shards.now len numbers.now at tables.now 2 1 result.1 }
 {
     let mut first = u8x32::splat(0);
     let mut second = u8x32::splat(0);
@@ -151,4 +141,37 @@ pub fn sum_pair(
         second = add_products(second, tables, table + TABLE_LEN, low, high);
     }
     (first, second)
+}
+
+/// Four sums for each place of a block, as `sum_two` makes two: each shard has four tables.
+#[inline]
+pub fn sum_four(
+    shards: &[u8],
+    len: usize,
+    numbers: &[u8],
+    at: usize,
+    tables: &[u8],
+) -> (u8x32, u8x32, u8x32, u8x32)
+    requires shards_size { All (λ number. number * len + (at + BLOCK_LEN) ≤ length shards.now) numbers.now }
+    requires tables_size { length numbers.now * 128 ≤ length tables.now }
+    ensures first { IsRowOfSums shards.now len numbers.now at tables.now 4 0 result.0 }
+    ensures second { IsRowOfSums shards.now len numbers.now at tables.now 4 1 result.1 }
+    ensures third { IsRowOfSums shards.now len numbers.now at tables.now 4 2 result.2 }
+    ensures fourth { IsRowOfSums shards.now len numbers.now at tables.now 4 3 result.3 }
+{
+    let mut first = u8x32::splat(0);
+    let mut second = u8x32::splat(0);
+    let mut third = u8x32::splat(0);
+    let mut fourth = u8x32::splat(0);
+    for (i, number) in numbers.iter().enumerate() {
+        let block = load(shards, usize::from(*number) * len + at);
+        let low = low_halves(block);
+        let high = high_halves(block);
+        let table = i * 4 * TABLE_LEN;
+        first = add_products(first, tables, table, low, high);
+        second = add_products(second, tables, table + TABLE_LEN, low, high);
+        third = add_products(third, tables, table + 2 * TABLE_LEN, low, high);
+        fourth = add_products(fourth, tables, table + 3 * TABLE_LEN, low, high);
+    }
+    (first, second, third, fourth)
 }

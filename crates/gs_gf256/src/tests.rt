@@ -2,7 +2,7 @@
 
 ghost use Rattle.std.specs.Prelude.{◌≤◌};
 
-use crate::{BLOCK_LEN, TABLE_LEN, inv, mul, mul_add, sum_pair, write_block, write_table};
+use crate::{BLOCK_LEN, TABLE_LEN, inv, mul, mul_add, sum_two, write_block, write_table};
 use std::process::Abort;
 
 const LONGEST: usize = 200;
@@ -85,7 +85,7 @@ fn sums_of_pairs(rt: HostRuntime) {
     for (place, k) in [3, 200, 0, 1, 255, 17].iter().enumerate() {
         write_table(&mut tables, place * TABLE_LEN, *k);
     }
-    let (first, second) = sum_pair(&shards, LEN, &[4, 0, 1], AT, &tables);
+    let (first, second) = sum_two(&shards, LEN, &[4, 0, 1], AT, &tables);
     let mut written = [0; 2 * BLOCK_LEN];
     write_block(&mut written, 0, first);
     write_block(&mut written, BLOCK_LEN, second);

@@ -145,10 +145,10 @@ enough_have code len numbers shards is enough size bytes =
     ∙ ap (λ m. get_or (word k).0 m 0) (div-mul-add i len k hk) in
     let columns : (k : ℕ) → k < len → IsCodeword code (column n len block k) = λ k hk.
     let same : (word k).0 ≡ column n len block k =
-    ext_get_or 0 (word k).0 (column n len block k) ((word k).1.is_word.counted ∙ sym (column_length n len block k)) (λ i h.
-    let hi : i < n = omega (arith, (word k).1.is_word.counted) in
+    ext_get_or 0 (word k).0 (column n len block k) ((word k).1.word_is.counted ∙ sym (column_length n len block k)) (λ i h.
+    let hi : i < n = omega (arith, (word k).1.word_is.counted) in
     sym (at i k hi hk) ∙ sym (column_at n len block k i 0 hi)) in
-    subst (IsCodeword code) same (word k).1.is_word in (
+    subst (IsCodeword code) same (word k).1.word_is in (
       block,
       (block_is_columns code len block is).1 (record { size = block_size; columns = columns }),
       λ j d h.

@@ -59,7 +59,7 @@ passes_through code numbers bytes enough word =
 
 -- the factor that the byte of point i has in the byte of the shard at x
 pub record IsWeight (code : CodeShape) (points : List ℕ) (i x w : ℕ) : Type 0 where
-  pub is_byte : IsByte w
+  pub byte : IsByte w
   pub scaled : product w (denominator code x) ≡ product (denominator code (get_or points i 0)) (weight points i x)
 
 -- a byte of a codeword is a weighted sum of as many others as there are data shards
@@ -80,7 +80,8 @@ weighted code numbers bytes weights shard is enough word within are_weights =
     let in_range : (i : ℕ) → i < code.data → get_or numbers i 0 < shard_count code = λ i h. enough.in_range i 0 (omega (arith, enough.count)) in
     let byte : (i : ℕ) → i < code.data → IsByte (get_or bytes (get_or numbers i 0) 0) =
     λ i h. word_byte code bytes word (get_or numbers i 0) (in_range i h) in
-    let sum_byte : IsByte sum = IsByte-field_sum _ code.data (λ i h. IsByte-product (weights i) (get_or bytes (get_or numbers i 0) 0) (are_weights i h).is_byte (byte i h)) in
+    let sum_byte : IsByte sum = IsByte-field_sum _ code.data (λ i h.
+    IsByte-product (weights i) (get_or bytes (get_or numbers i 0) 0) (are_weights i h).byte (byte i h)) in
     let term : (i : ℕ) → i < code.data
     → product (get_or values i 0) (weight points i x) ≡ product (product (weights i) (get_or bytes (get_or numbers i 0) 0)) w =
     λ i h.
@@ -92,7 +93,7 @@ weighted code numbers bytes weights shard is enough word within are_weights =
     let hs : IsByte s = byte i h in
     let hk : IsByte k = IsByte-denominator_of code is n (in_range i h) in
     let ht : IsByte t = IsByte-weight points i points_are (omega arith) x hx in
-    let hwi = (are_weights i h).is_byte in
+    let hwi = (are_weights i h).byte in
     let scaled : product (weights i) w ≡ product k t =
     (are_weights i h).scaled ∙ ap (λ q. product (denominator code q) t) (get_or-map (point code) numbers i 0 0 in_i) in
     ap (λ v. product v t) (get_or-map (value_under code (λ n. get_or bytes n 0)) numbers i 0 0 in_i)
@@ -132,7 +133,7 @@ same_words code numbers a b is enough word_a word_b agree =
 
 -- the codeword that has given bytes there
 pub record IsWordThrough (code : CodeShape) (numbers : List ℕ) (given : ℕ → ℕ) (bytes : List ℕ) : Type 0 where
-  pub is_word : IsCodeword code bytes
+  pub word_is : IsCodeword code bytes
   pub agrees : All (λ n. get_or bytes n 0 ≡ given n) numbers
 
 pub word_through : (code : CodeShape) (numbers : List ℕ) (given : ℕ → ℕ) → IsCode code → AreEnough code numbers → ((n : ℕ) → IsByte (given n))
@@ -156,7 +157,8 @@ word_through code numbers given is enough given_bytes =
     let bytes = map byte_at (range_with_len 0 n) in
     let counted : length bytes ≡ n = length-map-range_with_len byte_at 0 n in
     let at : (shard : ℕ) → shard < n → get_or bytes shard 0 ≡ byte_at shard = λ shard h. get_or-map-range_with_len byte_at 0 n shard shard 0 h (omega arith) in
-    let value_byte : (shard : ℕ) → shard < n → IsByte (value cs (point code shard)) = λ shard h. IsByte-value cs (point code shard) below.bytes (IsByte-point code is shard h) in
+    let value_byte : (shard : ℕ) → shard < n → IsByte (value cs (point code shard)) = λ shard h.
+    IsByte-value cs (point code shard) below.bytes (IsByte-point code is shard h) in
     let are_bytes : All IsByte bytes = λ k d h.
     let within : k < n = omega arith in
     let e : get_or bytes k d ≡ byte_at k = get_or-map-range_with_len byte_at 0 n k k d within (omega arith) in
@@ -168,7 +170,7 @@ word_through code numbers given is enough given_bytes =
     let word : IsCodeword code bytes = record { counted = counted; are_bytes = are_bytes; polynomial = cs; degree = below; values = values_are } in (
       bytes,
       record {
-        is_word = word;
+        word_is = word;
         agrees = λ k d h.
             let number = get_or numbers k d in
             let within = enough.in_range k d h in

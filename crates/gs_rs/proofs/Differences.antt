@@ -24,7 +24,7 @@ factor_same y x e = rw (eq-eqb y x e) refl
 pub factor_other : (y x : ℕ) → y ≢ x → factor y x ≡ bit_xor x y
 factor_other y x ne = rw (ne_eqb y x ne) refl
 
-IsByte-factor : (y x : ℕ) → IsByte y → IsByte x → IsByte (factor y x)
+pub IsByte-factor : (y x : ℕ) → IsByte y → IsByte x → IsByte (factor y x)
 IsByte-factor y x hy hx = elim (cases_eq y x) [
   | inl same ↦ let e = factor_same y x same in omega arith
   | inr other ↦ let e = factor_other y x other in let b = IsByte-xor x y hx hy in omega arith
@@ -122,8 +122,10 @@ weight_is points i x points_are hx not_x within =
     let p = get_or points i 0 in
     let rest = remove points i in
     let hp : IsByte p = points_are.bytes i 0 within in
-    let rest_bytes : All IsByte rest = All-append IsByte (take i points) (drop (suc i) points) (All-take IsByte i points points_are.bytes) (All-drop IsByte (suc i) points points_are.bytes) in
-    let rest_not_x : All (λ q. q ≢ x) rest = All-append (λ q. q ≢ x) (take i points) (drop (suc i) points) (All-take (λ q. q ≢ x) i points not_x) (All-drop (λ q. q ≢ x) (suc i) points not_x) in
+    let rest_bytes : All IsByte rest = All-append IsByte (take i points) (drop (suc i) points)
+    (All-take IsByte i points points_are.bytes) (All-drop IsByte (suc i) points points_are.bytes) in
+    let rest_not_x : All (λ q. q ≢ x) rest = All-append (λ q. q ≢ x) (take i points) (drop (suc i) points)
+    (All-take (λ q. q ≢ x) i points not_x) (All-drop (λ q. q ≢ x) (suc i) points not_x) in
     let rest_not_p : All (λ q. q ≢ p) rest = others_from_pairs points i points_are.distinct within in
     let own : differences points p ≡ differences rest p =
     differences_split points i p points_are.bytes hp within

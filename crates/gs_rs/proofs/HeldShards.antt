@@ -312,9 +312,9 @@ byte_in_column code size block k i in_k in_i = shard_at size block i k 0 in_k �
 restored_byte-is : (code : CodeShape) (size : ℕ) (block : List ℕ) (held : List HeldShard) → IsCode code → IsBlock code size block
     → AreOfBlock code size block held → (i k : ℕ) → i < code.data → k < size
     → restored_byte code held i k ≡ get_or (shard_of size block i) k 0
-restored_byte-is code size block held is is_block of_block i k in_i in_k =
+restored_byte-is code size block held is block_is of_block i k in_i in_k =
     let bytes = column (shard_count code) size block k in
-    let words = (block_is_columns code size block is).0 is_block in
+    let words = (block_is_columns code size block is).0 block_is in
     let held_value : HeldShard → ℕ = λ r. product (get_or r.bytes k 0) (denominator code (point code r.index)) in
     let points_are : map (λ (r : HeldShard). point code r.index) held ≡ map (point code) (map number_of held) =
     sym (map-map (point code) number_of held) in
@@ -351,24 +351,24 @@ held_or_restored-is : (code : CodeShape) (size : ℕ) (block : List ℕ) (held :
     → AreOfBlock code size block held → (i : ℕ) → i < code.data
     → (o : Option HeldShard) → find (λ (r : HeldShard). r.index == i) held ≡ o
     → held_or_restored code size held i o ≡ shard_of size block i
-held_or_restored-is code size block held which is_block of_block i in_i (Some r) e =
+held_or_restored-is code size block held which block_is of_block i in_i (Some r) e =
     let found = find-some (λ (s : HeldShard). s.index == i) (λ s. s.bytes ≡ shard_of size block s.index) held r of_block.are e in
     found.1 ∙ ap (shard_of size block) (eqb-true r.index i found.0)
-held_or_restored-is code size block held (inl is) is_block of_block i in_i None e =
+held_or_restored-is code size block held (inl is) block_is of_block i in_i None e =
     let restored = restored_byte code held i in
     let restored_size : length (map restored (range_with_len 0 size)) ≡ size = length-map-range_with_len restored 0 size in
     ext_get_or 0 (map restored (range_with_len 0 size)) (shard_of size block i)
-    (restored_size ∙ sym (length-shard_of (shard_count code) size block i is_block.size (omega arith)))
+    (restored_size ∙ sym (length-shard_of (shard_count code) size block i block_is.size (omega arith)))
     (λ k h.
     let in_k : k < size = omega arith in
     get_or-map-range_with_len restored 0 size k k 0 in_k (omega arith)
-    ∙ restored_byte-is code size block held is is_block of_block i k in_i in_k)
-held_or_restored-is code size block held (inr bare) is_block of_block i in_i None e = absurd (data_held code size block held bare of_block i in_i e)
+    ∙ restored_byte-is code size block held is block_is of_block i k in_i in_k)
+held_or_restored-is code size block held (inr bare) block_is of_block i in_i None e = absurd (data_held code size block held bare of_block i in_i e)
 
 -- whatever the block
 pub held_shards_fix : HeldShardsFixBlock
-held_shards_fix code size block held which is_block of_block i in_i =
-    held_or_restored-is code size block held which is_block of_block i in_i (find (λ (r : HeldShard). r.index == i) held) refl
+held_shards_fix code size block held which block_is of_block i in_i =
+    held_or_restored-is code size block held which block_is of_block i in_i (find (λ (r : HeldShard). r.index == i) held) refl
 
 -- so of data shards with their parity shards: they are one
 pub held_shards_hold : HeldShardsHoldBlock

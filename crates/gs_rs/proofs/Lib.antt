@@ -5,7 +5,9 @@ pub mod Codewords
 pub mod Rows
 pub mod Blocks
 pub mod Writes
-pub mod PairWrites
+pub mod RowWrites
+pub mod TargetRows
+pub mod AbsentRows
 pub mod Restoring
 pub mod Present
 pub mod Restored

@@ -84,7 +84,8 @@ ArePoints-map code numbers is enough =
       distinct = λ i j d less within.
           let in_j : j < length numbers = omega arith in
           let in_i : i < length numbers = omega arith in
-          let apart = point-apart code is (get_or numbers i 0) (get_or numbers j 0) (enough.in_range i 0 in_i) (enough.in_range j 0 in_j) (enough.distinct i j 0 less in_j) in
+          let apart = point-apart code is (get_or numbers i 0) (get_or numbers j 0)
+          (enough.in_range i 0 in_i) (enough.in_range j 0 in_j) (enough.distinct i j 0 less in_j) in
           λ e. apart (sym (get_or-map (point code) numbers i 0 d in_i) ∙ e ∙ get_or-map (point code) numbers j 0 d in_j);
     }
 
@@ -146,5 +147,5 @@ points_of_numbers code numbers points count room at =
 video≢audio : Video ≡ Audio → ⊥
 video≢audio e = cc
 
-pub is_video_code : (d p : ℕ) → 0 < d → d + p ≤ 255 → IsCode (shape_of d p Video)
-is_video_code d p some fits = record { some_data = some; points_fit = fits; audio_counts = λ e. absurd (video≢audio e) }
+pub IsCode-video : (d p : ℕ) → 0 < d → d + p ≤ 255 → IsCode (shape_of d p Video)
+IsCode-video d p some fits = record { some_data = some; points_fit = fits; audio_counts = λ e. absurd (video≢audio e) }

@@ -47,7 +47,7 @@ pub restores_each_block : (code : CodeShape) (len : ℕ) (present : List Bool) (
     → length after ≡ shard_count code * len
     → RestoresAbsent code len present (take count numbers) before after → KeepsOthers code len present before after
     → RestoresEachBlock code len present before after
-restores_each_block code len present count numbers before after lowest room whole size size_after absent others = λ block is_block agrees.
+restores_each_block code len present count numbers before after lowest room whole size size_after absent others = λ block block_is agrees.
     let d = code.data in
     let enough = chosen_enough code present count numbers lowest room whole size in
     let at_chosen : All (λ n. shard_of len before n ≡ shard_of len block n) (take count numbers) = λ i e h.
@@ -61,11 +61,11 @@ restores_each_block code len present count numbers before after lowest room whol
     elim (cases_Bool (get_or present i false)) [
       | inl here ↦
           others i (omega arith) (inl here) ∙ agrees i (omega arith) (here, omega (arith, rank_le present i))
-      | inr gone ↦ absent block is_block at_chosen i h (λ here. false≢true (sym gone ∙ here))
+      | inr gone ↦ absent block block_is at_chosen i h (λ here. false≢true (sym gone ∙ here))
     ] in
     let fits : d * len ≤ shard_count code * len = omega arith in
     same_shards d len (data_of code len after) (data_of code len block)
-    (length-take-le (d * len) after (omega arith)) (length-take-le (d * len) block (omega (arith, is_block.size)))
+    (length-take-le (d * len) after (omega arith)) (length-take-le (d * len) block (omega (arith, block_is.size)))
     (λ i k hi hk.
     let below = in_shards d len i k hi hk in
     get_or-take (d * len) after (i * len + k) 0 below

@@ -1,8 +1,8 @@
--- Absent data shards, one after another, by weighted sums of the chosen ones.
-use Rattle.std.proofs.Common.{◌≡◌, ◌≢◌, ℕ, ◌+◌, ◌*◌, ◌<◌, ◌≤◌, List, Bool, true, false, length, get_or, map, sym, ap, ◌∙◌, subst, refl, ◌⊎◌, bit_xor, arith, inl, inr}
+-- Absent data shards by weighted sums of the chosen ones.
+use Rattle.std.proofs.Common.{◌≡◌, ◌≢◌, ℕ, ◌+◌, ◌-◌, ◌*◌, ◌<◌, ◌≤◌, List, Bool, length, get_or, map, sym, ap, ◌∙◌, subst, refl, bit_xor, arith, inl, inr}
 use Rattle.std.specs.List.{All}
-use Rattle.std.proofs.lemmas.Bool.{cases_eq, false≢true}
-use Rattle.std.proofs.lemmas.List.{length-map}
+use Rattle.std.proofs.lemmas.Bool.{cases_lt}
+use Rattle.std.proofs.lemmas.List.{length-map, get_or_default}
 use Rattle.std.proofs.lemmas.Nat.{row_fits}
 use Rattle.gs_gf256.specs.Field.{IsByte, product, quotient, field_sum}
 use Rattle.gs_gf256.proofs.FieldLemmas.{IsByte-xor, IsByte-product, xor-ne-zero}
@@ -14,6 +14,7 @@ use Rattle.gs_rs.specs.Shape.{IsCode, shard_count, point, denominator, differenc
 use Rattle.gs_rs.specs.Codeword.{IsBlock, column, shard_of}
 use Rattle.gs_rs.specs.Restore.{IsPresent, RestoresAbsent, KeepsOthers}
 use Rattle.gs_rs.specs.Laws.{AreEnough}
+use Rattle.gs_rs.specs.AbsentRows.{shard_weight, AreAllAbsent, AreOthers, AreRestored}
 use Rattle.gs_rs.proofs.Algebra.{weight_from_factors, IsByte-quotient}
 use Rattle.gs_rs.proofs.Differences.{IsByte-differences, differences-ne-zero, weight_is}
 use Rattle.gs_rs.proofs.Points.{IsByte-point, ArePoints-map, IsByte-denominator, denominator-ne-zero}
@@ -21,33 +22,20 @@ use Rattle.gs_rs.proofs.Codewords.{IsWeight, weighted}
 use Rattle.gs_rs.proofs.Rows.{not_among}
 use Rattle.gs_rs.proofs.Blocks.{byte_at, column_at, bytes_of_same_shard, same_shard, block_is_columns}
 
--- a shard is present or it is not
-absent_is_other : (present : List Bool) (a b : ℕ) → IsPresent present a → get_or present b false ≡ false → a ≢ b
-absent_is_other present a b here gone same = false≢true (sym gone ∙ ap (λ n. get_or present n false) (sym same) ∙ here)
+-- the chosen shards' points are bytes
+pub point_bytes : (code : CodeShape) (chosen points : List ℕ) → points ≡ map (point code) chosen → IsCode code → AreEnough code chosen → All IsByte points
+point_bytes code chosen points same is enough = subst (All IsByte) (sym same) (ArePoints-map code chosen is enough).bytes
 
-pub chosen_apart : (present : List Bool) (numbers : List ℕ) (to : ℕ) → All (IsPresent present) numbers → get_or present to false ≡ false
-    → All (λ n. n ≢ to) numbers
-chosen_apart present numbers to here gone = λ i d h. absent_is_other present (get_or numbers i d) to (here i d h) gone
-
-pub points_apart : (code : CodeShape) (present : List Bool) (numbers : List ℕ) (to : ℕ) → IsCode code → AreEnough code numbers
-    → All (IsPresent present) numbers → to < code.data → get_or present to false ≡ false
-    → All (λ q. q ≢ point code to) (map (point code) numbers)
-points_apart code present numbers to is enough here within gone =
-    not_among code numbers to is enough (omega arith) (chosen_apart present numbers to here gone)
-
--- the numbers that are found from the factors are the weights
-pub weights_are : (code : CodeShape) (numbers factors weights : List ℕ) (to i : ℕ) → IsCode code → AreEnough code numbers → to < shard_count code
-    → All (λ q. q ≢ point code to) (map (point code) numbers) → i < code.data
-    → get_or factors i 0 ≡ quotient (denominator code (get_or (map (point code) numbers) i 0)) (differences (map (point code) numbers) (get_or (map (point code) numbers) i 0))
-    → get_or weights i 0 ≡ quotient (product (quotient (differences (map (point code) numbers) (point code to)) (denominator code (point code to))) (get_or factors i 0))
-    (bit_xor (point code to) (get_or (map (point code) numbers) i 0))
-    → IsWeight code (map (point code) numbers) i (point code to) (get_or weights i 0)
-weights_are code numbers factors weights to i is enough within apart i_in factor_is weight_found =
-    let points = map (point code) numbers in
+-- the weights of the definition are weights
+shard_weight_is : (code : CodeShape) (chosen : List ℕ) (to i : ℕ) → IsCode code → AreEnough code chosen → to < shard_count code
+    → All (λ n. n ≢ to) chosen → i < code.data → IsWeight code (map (point code) chosen) i (point code to) (shard_weight code chosen to i)
+shard_weight_is code chosen to i is enough within others i_in =
+    let points = map (point code) chosen in
+    let apart = not_among code chosen to is enough within others in
     let x = point code to in
     let p = get_or points i 0 in
-    let points_are : ArePoints points = ArePoints-map code numbers is enough in
-    let in_points : i < length points = omega (arith, length-map numbers (point code), enough.count) in
+    let points_are : ArePoints points = ArePoints-map code chosen is enough in
+    let in_points : i < length points = omega (arith, length-map chosen (point code), enough.count) in
     let hx : IsByte x = IsByte-point code is to within in
     let hp : IsByte p = points_are.bytes i 0 in_points in
     let f = differences points x in
@@ -55,38 +43,17 @@ weights_are code numbers factors weights to i is enough within apart i_in factor
     let k = denominator code p in
     let b = differences points p in
     let e = bit_xor x p in
-    let t = weight points i x in
     let hf : IsByte f = IsByte-differences points x points_are.bytes hx in
     let hk : IsByte k = IsByte-denominator code is p hp in
-    let found : get_or weights i 0 ≡ quotient (product (quotient f w) (quotient k b)) e =
-    weight_found ∙ ap (λ v. quotient (product (quotient f w) v) e) factor_is in
     record {
-      is_byte = subst IsByte (sym found)
-          (IsByte-quotient (product (quotient f w) (quotient k b)) e
-          (IsByte-product (quotient f w) (quotient k b) (IsByte-quotient f w hf) (IsByte-quotient k b hk)));
-      scaled =
-          ap (λ v. product v w) found
-          ∙ weight_from_factors f w k b e t hf (IsByte-denominator code is x hx) hk
+      byte = IsByte-quotient (product (quotient f w) (quotient k b)) e
+          (IsByte-product (quotient f w) (quotient k b) (IsByte-quotient f w hf) (IsByte-quotient k b hk));
+      scaled = weight_from_factors f w k b e (weight points i x) hf (IsByte-denominator code is x hx) hk
           (IsByte-differences points p points_are.bytes hp) (IsByte-xor x p hx hp) (IsByte-weight points i points_are in_points x hx)
           (denominator-ne-zero code is x hx) (differences-ne-zero points p points_are.bytes hp)
           (xor-ne-zero x p (λ same. apart i 0 in_points (sym same)))
           (weight_is points i x points_are hx apart in_points);
     }
-
--- the same for points and an x that are known to be the shards'
-pub weights_are_at : (code : CodeShape) (numbers points factors weights : List ℕ) (x to i : ℕ) → points ≡ map (point code) numbers → x ≡ point code to
-    → IsCode code → AreEnough code numbers → to < shard_count code
-    → All (λ q. q ≢ point code to) (map (point code) numbers) → i < code.data
-    → get_or factors i 0 ≡ quotient (denominator code (get_or points i 0)) (differences points (get_or points i 0))
-    → get_or weights i 0 ≡ quotient (product (quotient (differences points x) (denominator code x)) (get_or factors i 0)) (bit_xor x (get_or points i 0))
-    → IsWeight code (map (point code) numbers) i (point code to) (get_or weights i 0)
-weights_are_at code numbers points factors weights x to i same_points same_x is enough within apart i_in factor_is weight_found =
-    let ps = map (point code) numbers in
-    weights_are code numbers factors weights to i is enough within apart i_in
-    (subst (λ qs. get_or factors i 0 ≡ quotient (denominator code (get_or qs i 0)) (differences qs (get_or qs i 0))) same_points factor_is)
-    (subst (λ y. get_or weights i 0 ≡ quotient (product (quotient (differences ps y) (denominator code y)) (get_or factors i 0)) (bit_xor y (get_or ps i 0))) same_x
-    (subst (λ qs. get_or weights i 0 ≡ quotient (product (quotient (differences qs x) (denominator code x)) (get_or factors i 0)) (bit_xor x (get_or qs i 0)))
-    same_points weight_found))
 
 pub numbers_fit : (code : CodeShape) (len : ℕ) (numbers shards : List ℕ) → AreEnough code numbers → length shards ≡ shard_count code * len
     → All (λ n. n * len + len ≤ length shards) numbers
@@ -94,75 +61,115 @@ numbers_fit code len numbers shards enough size = λ i d h.
     let fits = row_fits (get_or numbers i d) len (shard_count code) len (enough.in_range i d h) (omega arith) in
     omega arith
 
--- the absent data shards below a number are restored, and no other shard has changed
-pub record RestoredBelow (code : CodeShape) (len : ℕ) (present : List Bool) (numbers before after : List ℕ) (bound : ℕ) : Type 0 where
-  pub restored : (block : List ℕ) → IsBlock code len block → All (λ n. shard_of len before n ≡ shard_of len block n) numbers
-      → (to k : ℕ) → to < bound → ¬ IsPresent present to → k < len → byte_at len after k to ≡ byte_at len block k to
-  pub others : (n k : ℕ) → IsPresent present n ⊎ (bound ≤ n) → k < len → byte_at len after k n ≡ byte_at len before k n
+-- the weighted sum of the chosen shards of a block is its byte
+sum_is_byte : (code : CodeShape) (len : ℕ) (chosen before block : List ℕ) (to k : ℕ) → IsCode code → AreEnough code chosen
+    → to < shard_count code → All (λ n. n ≢ to) chosen → IsBlock code len block
+    → All (λ n. shard_of len before n ≡ shard_of len block n) chosen → k < len
+    → field_sum (λ i. product (shard_weight code chosen to i) (byte_at len before k (get_or chosen i 0))) code.data ≡ byte_at len block k to
+sum_is_byte code len chosen before block to k is enough within others block_is same hk =
+    let n = shard_count code in
+    let words = (block_is_columns code len block is).0 block_is in
+    let source : (i : ℕ) → i < code.data → byte_at len before k (get_or chosen i 0) ≡ get_or (column n len block k) (get_or chosen i 0) 0 = λ i hi.
+    let in_i : i < length chosen = omega (arith, enough.count) in
+    bytes_of_same_shard len before block (get_or chosen i 0) k (same i 0 in_i) hk
+    ∙ sym (column_at n len block k (get_or chosen i 0) 0 (enough.in_range i 0 in_i)) in
+    field_sum-same _ _ code.data (λ i hi. ap (product (shard_weight code chosen to i)) (source i hi))
+    ∙ sym (weighted code chosen (column n len block k) (shard_weight code chosen to) to is enough (words.columns k hk) within
+    (λ i hi. shard_weight_is code chosen to i is enough within others hi))
+    ∙ column_at n len block k to 0 within
 
-pub restored_none : (code : CodeShape) (len : ℕ) (present : List Bool) (numbers before : List ℕ) → RestoredBelow code len present numbers before before 0
-restored_none code len present numbers before = record {
-  restored = λ block is same to k below gone hk. absurd (omega arith);
+-- ---- the absent shards' numbers
+
+pub absent_are_data : (code : CodeShape) (present : List Bool) (numbers : List ℕ) → AreAllAbsent present code.data (length numbers) numbers
+    → All (λ n. n < code.data) numbers
+absent_are_data code present numbers found = λ r d h.
+    subst (λ n. n < code.data) (get_or_default numbers r 0 d h) (found.absent r h).0
+
+pub absent_are_others : (limit : ℕ) (present : List Bool) (chosen numbers : List ℕ) → AreAllAbsent present limit (length numbers) numbers
+    → All (IsPresent present) chosen → AreOthers chosen numbers
+absent_are_others limit present chosen numbers found here = record {
+  distinct = λ r s hr hs other same. elim (cases_lt r s) [
+    | inl less ↦ let rises = found.in_order r s less hs in omega arith
+    | inr more ↦ let rises = found.in_order s r (omega arith) hr in omega arith
+  ];
+  not_chosen = λ r i hr hi same. (found.absent r hr).1 (subst (IsPresent present) same (here i 0 hi));
+}
+
+pub others_than : (chosen numbers : List ℕ) (r : ℕ) → AreOthers chosen numbers → r < length numbers → All (λ n. n ≢ get_or numbers r 0) chosen
+others_than chosen numbers r are hr = λ i d hi same. are.not_chosen r i hr hi (get_or_default chosen i 0 d hi ∙ same)
+
+-- ---- the restored shards
+
+pub restored_none : (code : CodeShape) (len : ℕ) (chosen numbers before : List ℕ) → AreRestored code len chosen numbers 0 before before
+restored_none code len chosen numbers before = record {
+  sums = λ r k below hk. absurd (omega arith);
   others = λ n k which hk. refl;
 }
 
-pub restored_present : (code : CodeShape) (len : ℕ) (present : List Bool) (numbers before after : List ℕ) (to : ℕ)
-    → RestoredBelow code len present numbers before after to → get_or present to false ≡ true → RestoredBelow code len present numbers before after (to + 1)
-restored_present code len present numbers before after to so_far here = record {
-  restored = λ block is same n k below gone hk. elim (cases_eq n to) [
-    | inl this ↦ absurd (gone (ap (λ m. get_or present m false) this ∙ here))
-    | inr other ↦ so_far.restored block is same n k (omega arith) gone hk
-  ];
-  others = λ n k which hk. elim which [
-    | inl p ↦ so_far.others n k (inl p) hk
-    | inr above ↦ so_far.others n k (inr (omega arith)) hk
-  ];
-}
-
-pub restored_more : (code : CodeShape) (len : ℕ) (present : List Bool) (numbers weights before now after : List ℕ) (to : ℕ) → IsCode code → AreEnough code numbers
-    → All (IsPresent present) numbers → to < code.data → get_or present to false ≡ false
-    → RestoredBelow code len present numbers before now to
-    → ((i : ℕ) → i < code.data → IsWeight code (map (point code) numbers) i (point code to) (get_or weights i 0))
-    → ((k : ℕ) → k < len → get_or after (to * len + k) 0 ≡ field_sum (λ i. product (get_or weights i 0) (get_or now (get_or numbers i 0 * len + k) 0)) (length numbers))
-    → ((n k : ℕ) → n ≢ to → k < len → get_or after (n * len + k) 0 ≡ get_or now (n * len + k) 0)
-    → RestoredBelow code len present numbers before after (to + 1)
-restored_more code len present numbers weights before now after to is enough here within gone so_far are_weights written kept =
-    let n = shard_count code in
-    let d = code.data in
+-- more of them, from those that are restored
+pub restored_more : (code : CodeShape) (len : ℕ) (chosen numbers before now after : List ℕ) (row rows : ℕ) → AreEnough code chosen
+    → AreOthers chosen numbers → row + rows ≤ length numbers → AreRestored code len chosen numbers row before now
+    → ((r k : ℕ) → r < rows → k < len → byte_at len after k (get_or numbers (row + r) 0)
+    ≡ field_sum (λ i. product (shard_weight code chosen (get_or numbers (row + r) 0) i) (byte_at len now k (get_or chosen i 0))) code.data)
+    → ((n k : ℕ) → ((r : ℕ) → r < rows → n ≢ get_or numbers (row + r) 0) → k < len → byte_at len after k n ≡ byte_at len now k n)
+    → AreRestored code len chosen numbers (row + rows) before after
+restored_more code len chosen numbers before now after row rows enough are within so_far sums kept =
+    let source : (i k : ℕ) → i < code.data → k < len → byte_at len now k (get_or chosen i 0) ≡ byte_at len before k (get_or chosen i 0) = λ i k hi hk.
+    so_far.others (get_or chosen i 0) k (λ r hr. are.not_chosen r i (omega arith) (omega (arith, enough.count))) hk in
     record {
-      restored = λ block is_block same j k below j_gone hk. elim (cases_eq j to) [
-        | inl this ↦
-            let words = (block_is_columns code len block is).0 is_block in
-            let source : (i : ℕ) → i < d → byte_at len now k (get_or numbers i 0) ≡ get_or (column n len block k) (get_or numbers i 0) 0 = λ i hi.
-            let in_i : i < length numbers = omega (arith, enough.count) in
-            so_far.others (get_or numbers i 0) k (inl (here i 0 in_i)) hk
-            ∙ bytes_of_same_shard len before block (get_or numbers i 0) k (same i 0 in_i) hk
-            ∙ sym (column_at n len block k (get_or numbers i 0) 0 (enough.in_range i 0 in_i)) in
-            ap (byte_at len after k) this
-            ∙ written k hk
-            ∙ ap (field_sum (λ i. product (get_or weights i 0) (byte_at len now k (get_or numbers i 0)))) enough.count
-            ∙ field_sum-same _ _ d (λ i hi. ap (product (get_or weights i 0)) (source i hi))
-            ∙ sym (weighted code numbers (column n len block k) (λ i. get_or weights i 0) to is enough (words.columns k hk) (omega arith) are_weights)
-            ∙ column_at n len block k to 0 (omega arith)
-            ∙ ap (byte_at len block k) (sym this)
-        | inr other ↦ kept j k other hk ∙ so_far.restored block is_block same j k (omega arith) j_gone hk
+      sums = λ r k below hk. elim (cases_lt r row) [
+        | inl early ↦ kept (get_or numbers r 0) k (λ s hs. are.distinct r (row + s) (omega arith) (omega arith) (omega arith)) hk ∙ so_far.sums r k early hk
+        | inr late ↦
+            let s = r - row in
+            let this : row + s ≡ r = omega arith in
+            subst (λ q. byte_at len after k (get_or numbers q 0)
+            ≡ field_sum (λ i. product (shard_weight code chosen (get_or numbers q 0) i) (byte_at len before k (get_or chosen i 0))) code.data) this
+            (sums s k (omega arith) hk
+            ∙ field_sum-same _ _ code.data (λ i hi. ap (product (shard_weight code chosen (get_or numbers (row + s) 0) i)) (source i k hi hk)))
       ];
-      others = λ j k which hk. elim which [
-        | inl p ↦ kept j k (absent_is_other present j to p gone) hk ∙ so_far.others j k (inl p) hk
-        | inr above ↦ kept j k (λ same. omega arith) hk ∙ so_far.others j k (inr (omega arith)) hk
-      ];
+      others = λ n k which hk.
+          kept n k (λ r hr. which (row + r) (omega arith)) hk ∙ so_far.others n k (λ r hr. which r (omega arith)) hk;
     }
 
-pub restores_absent : (code : CodeShape) (len : ℕ) (present : List Bool) (numbers before after : List ℕ) (bound : ℕ)
-    → length after ≡ shard_count code * len → code.data ≤ bound
-    → RestoredBelow code len present numbers before after bound → RestoresAbsent code len present numbers before after
-restores_absent code len present numbers before after bound size whole all = λ block is_block same to within gone.
-    same_shard (shard_count code) len after block to size is_block.size (omega arith) (λ k hk.
-    all.restored block is_block same to k (omega arith) gone hk)
+-- one more, by a row of weights
+pub restored_one : (code : CodeShape) (len : ℕ) (chosen numbers weights before now after : List ℕ) (row : ℕ) → AreEnough code chosen
+    → AreOthers chosen numbers → row < length numbers → AreRestored code len chosen numbers row before now
+    → ((i : ℕ) → i < code.data → get_or weights i 0 ≡ shard_weight code chosen (get_or numbers row 0) i)
+    → ((k : ℕ) → k < len → byte_at len after k (get_or numbers row 0)
+    ≡ field_sum (λ i. product (get_or weights i 0) (byte_at len now k (get_or chosen i 0))) (length chosen))
+    → ((n k : ℕ) → n ≢ get_or numbers row 0 → k < len → byte_at len after k n ≡ byte_at len now k n)
+    → AreRestored code len chosen numbers (row + 1) before after
+restored_one code len chosen numbers weights before now after row enough are within so_far given sums kept =
+    restored_more code len chosen numbers before now after row 1 enough are (omega arith) so_far
+    (λ r k hr hk.
+    subst (λ q. byte_at len after k (get_or numbers q 0)
+    ≡ field_sum (λ i. product (shard_weight code chosen (get_or numbers q 0) i) (byte_at len now k (get_or chosen i 0))) code.data)
+    (let e : row ≡ row + r = omega arith in e)
+    (sums k hk
+    ∙ ap (field_sum (λ i. product (get_or weights i 0) (byte_at len now k (get_or chosen i 0)))) enough.count
+    ∙ field_sum-same _ _ code.data (λ i hi. ap (λ w. product w (byte_at len now k (get_or chosen i 0))) (given i hi))))
+    (λ n k which hk. kept n k (λ same. which 0 (omega arith) (same ∙ ap (λ q. get_or numbers q 0) (let e : row ≡ row + 0 = omega arith in e))) hk)
 
-pub keeps_others : (code : CodeShape) (len : ℕ) (present : List Bool) (numbers before after : List ℕ) (bound : ℕ)
-    → length before ≡ shard_count code * len → length after ≡ shard_count code * len → bound ≤ code.data
-    → RestoredBelow code len present numbers before after bound → KeepsOthers code len present before after
-keeps_others code len present numbers before after bound size_before size_after whole all = λ n within which.
+pub restores_absent : (code : CodeShape) (len : ℕ) (present : List Bool) (chosen numbers before after : List ℕ) → IsCode code → AreEnough code chosen
+    → All (IsPresent present) chosen → AreAllAbsent present code.data (length numbers) numbers → length after ≡ shard_count code * len
+    → AreRestored code len chosen numbers (length numbers) before after → RestoresAbsent code len present chosen before after
+restores_absent code len present chosen numbers before after is enough here found size all = λ block block_is same to within gone.
+    let at = found.whole to within gone in
+    let r = at.0 in
+    let this : get_or numbers r 0 ≡ to = at.2 in
+    let others = others_than chosen numbers r (absent_are_others code.data present chosen numbers found here) at.1 in
+    same_shard (shard_count code) len after block to size block_is.size (omega arith) (λ k hk.
+    subst (λ n. byte_at len after k n ≡ byte_at len block k n) this
+    (all.sums r k at.1 hk
+    ∙ sum_is_byte code len chosen before block (get_or numbers r 0) k is enough (omega (arith, this)) others block_is same hk))
+
+pub keeps_others : (code : CodeShape) (len : ℕ) (present : List Bool) (chosen numbers before after : List ℕ)
+    → AreAllAbsent present code.data (length numbers) numbers
+    → length before ≡ shard_count code * len → length after ≡ shard_count code * len
+    → AreRestored code len chosen numbers (length numbers) before after → KeepsOthers code len present before after
+keeps_others code len present chosen numbers before after found size_before size_after all = λ n within which.
     same_shard (shard_count code) len after before n size_after size_before within (λ k hk.
-    elim which [ inl p ↦ all.others n k (inl p) hk | inr above ↦ all.others n k (inr (omega arith)) hk ])
+    all.others n k (λ r hr same. elim which [
+      | inl p ↦ (found.absent r hr).1 (subst (IsPresent present) same p)
+      | inr above ↦ let below = (found.absent r hr).0 in omega arith
+    ]) hk)

@@ -89,7 +89,7 @@ video_coefficient d p row i is row_in i_in =
     let coefficient_is : coefficient code row i ≡ c =
     ap inverse (ap (λ v. bit_xor v row) (sym at_q) ∙ ap (bit_xor (get_or points i 0)) (sym at_x) ∙ xor_comm (get_or points i 0) x) in
     record {
-      is_byte = IsByte-inverse (bit_xor q row);
+      byte = IsByte-inverse (bit_xor q row);
       scaled =
           ap (λ v. product v (differences points x)) coefficient_is
           ∙ ap (product c) (sym (weight_is points i x points_are hx not_x in_points))
@@ -101,7 +101,8 @@ video_coefficient d p row i is row_in i_in =
     }
 
 audio_test : all_below 2 (λ row. all_below 4 (λ i.
-    eqb (product (product (get_or (audio_row row) i 0) (differences (data_points audio_code) (point audio_code i))) (bit_xor (point audio_code (4 + row)) (point audio_code i)))
+    eqb (product (product (get_or (audio_row row) i 0) (differences (data_points audio_code) (point audio_code i)))
+    (bit_xor (point audio_code (4 + row)) (point audio_code i)))
     (differences (data_points audio_code) (point audio_code (4 + row))))) ≡ true
 unfolding all_below differences product polynomial_product remainder
 audio_test = refl
@@ -110,8 +111,8 @@ audio_bytes_test : all_below 2 (λ row. all_below 4 (λ i. ltb (get_or (audio_ro
 unfolding all_below
 audio_bytes_test = refl
 
-pub is_audio_code : IsCode audio_code
-is_audio_code = record { some_data = lit< tt; points_fit = lit≤ tt; audio_counts = λ e. (refl, refl) }
+pub IsCode-audio : IsCode audio_code
+IsCode-audio = record { some_data = lit< tt; points_fit = lit≤ tt; audio_counts = λ e. (refl, refl) }
 
 audio_coefficient : (row i : ℕ) → row < 2 → i < 4
     → IsWeight audio_code (data_points audio_code) i (point audio_code (4 + row)) (coefficient audio_code row i)
@@ -123,9 +124,9 @@ audio_coefficient row i row_in i_in =
     let q = point audio_code i in
     let c = coefficient audio_code row i in
     let t = weight points i x in
-    let points_are = data_points_are audio_code is_audio_code in
-    let hx : IsByte x = IsByte-point audio_code is_audio_code shard within in
-    let hq : IsByte q = IsByte-point audio_code is_audio_code i (omega arith) in
+    let points_are = data_points_are audio_code IsCode-audio in
+    let hx : IsByte x = IsByte-point audio_code IsCode-audio shard within in
+    let hq : IsByte q = IsByte-point audio_code IsCode-audio i (omega arith) in
     let hc : IsByte c = ltb-true (get_or (audio_row row) i 0) 256 (at_below 4 _ (at_below 2 _ audio_bytes_test row row_in) i i_in) in
     let ht : IsByte t = IsByte-weight points i points_are (omega (arith, data_points_length audio_code)) x hx in
     let b = differences points q in
@@ -133,14 +134,14 @@ audio_coefficient row i row_in i_in =
     let b0 : b ≢ 0 = differences-ne-zero points q points_are.bytes hq in
     let e = bit_xor x q in
     let he : IsByte e = IsByte-xor x q hx hq in
-    let e0 : e ≢ 0 = xor-ne-zero x q (point-apart audio_code is_audio_code shard i within (omega arith) (λ same. omega arith)) in
+    let e0 : e ≢ 0 = xor-ne-zero x q (point-apart audio_code IsCode-audio shard i within (omega arith) (λ same. omega arith)) in
     let by_row : product (product c b) e ≡ differences points x = eqb-true _ _ (at_below 4 _ (at_below 2 _ audio_test row row_in) i i_in) in
-    let by_weight = weight_at_parity audio_code shard i is_audio_code (omega arith) within i_in in
+    let by_weight = weight_at_parity audio_code shard i IsCode-audio (omega arith) within i_in in
     let same : c ≡ t =
     product_cancel_r c t b hc ht hb b0
     (product_cancel_r (product c b) (product t b) e (IsByte-product c b hc hb) (IsByte-product t b ht hb) he e0 (by_row ∙ sym by_weight)) in
     record {
-      is_byte = hc;
+      byte = hc;
       scaled = product-one_r c hc ∙ same ∙ sym (product-one_l t ht);
     }
 
@@ -178,25 +179,25 @@ word_from_rows code bytes is rows =
     let numbers = range_with_len 0 d in
     let found = word_through code numbers (λ n. get_or bytes n 0) is (data_enough code) (byte_or_zero bytes rows.are_bytes) in
     let word = found.0 in
-    let is_word = found.1.is_word in
+    let word_is = found.1.word_is in
     let on_data : (i : ℕ) → i < d → get_or word i 0 ≡ get_or bytes i 0 = λ i h.
     let e = range_at d i 0 h in
     let here : i < length numbers = omega (arith, length-range_with_len 0 d) in
     subst (λ n. get_or word n 0 ≡ get_or bytes n 0) e (found.1.agrees i 0 here) in
     let same : word ≡ bytes =
-    ext_get_or 0 word bytes (is_word.counted ∙ sym rows.counted) (λ n h.
+    ext_get_or 0 word bytes (word_is.counted ∙ sym rows.counted) (λ n h.
     elim (cases_lt n d) [
       | inl low ↦ on_data n low
       | inr high ↦
           let row = n - d in
-          let row_in : row < code.parity = omega (arith, is_word.counted) in
+          let row_in : row < code.parity = omega (arith, word_is.counted) in
           let at : d + row ≡ n = omega arith in
           subst (λ m. get_or word m 0 ≡ get_or bytes m 0) at
-          (rows_from_word code word is is_word row row_in
+          (rows_from_word code word is word_is row row_in
           ∙ field_sum-same _ _ d (λ i i_in. ap (product (coefficient code row i)) (on_data i i_in))
           ∙ sym (rows.rows row row_in))
     ]) in
-    subst (IsCodeword code) same is_word
+    subst (IsCodeword code) same word_is
 
 pub point_form_is_row_form : PointFormIsRowForm
 point_form_is_row_form code bytes is = (

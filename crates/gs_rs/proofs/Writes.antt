@@ -62,7 +62,8 @@ put_front : (a size : ℕ) (front back ys : List ℕ) → a + size ≤ length fr
 put_front a size front back ys room =
     let e1 : take a (front ++ back) ≡ take a front = take-append-le a front back (omega arith) in
     let e2 : drop a (front ++ back) ≡ drop a front ++ back = drop-append-le a front back (omega arith) in
-    let e3 : drop size (drop a front ++ back) ≡ drop size (drop a front) ++ back = drop-append-le size (drop a front) back (omega (arith, length-drop a front)) in
+    let e3 : drop size (drop a front ++ back) ≡ drop size (drop a front) ++ back =
+    drop-append-le size (drop a front) back (omega (arith, length-drop a front)) in
     append_assoc (take a front) (ys ++ drop size (drop a front)) back
     ∙ ap (λ z. take a front ++ z) (append_assoc ys (drop size (drop a front)) back)
     ∙ sym (ap (λ z. z ++ (ys ++ drop size (drop a (front ++ back)))) e1

@@ -6,8 +6,8 @@ use Rattle.gs_poly.specs.Polynomial.{value, IsPolynomialBelow}
 use Rattle.gs_rs.specs.declared.shape.CodeShape.{CodeShape}
 use Rattle.gs_rs.specs.Shape.{shard_count, point, denominator, coefficient}
 
--- A byte for each shard, such that one polynomial N with a coefficient for each data shard gives the byte of the shard at
--- each point p as N(p) divided by the denominator of p.
+-- A byte for each shard, such that one polynomial N with a coefficient for each data shard gives the byte of the shard
+-- at each point p as N(p) divided by the denominator of p.
 pub record IsCodeword (code : CodeShape) (bytes : List ℕ) : Type 0 where
   pub counted : length bytes ≡ shard_count code
   pub are_bytes : All IsByte bytes
@@ -21,7 +21,8 @@ pub record HasParityRows (code : CodeShape) (bytes : List ℕ) : Type 0 where
   pub counted : length bytes ≡ shard_count code
   pub are_bytes : All IsByte bytes
   pub rows : (row : ℕ) → row < code.parity
-      → slice_index bytes (code.data + row) ≡ field_sum (λ i. product (coefficient code row i) (slice_index bytes i)) code.data
+      → slice_index bytes (code.data + row)
+      ≡ field_sum (λ i. product (coefficient code row i) (slice_index bytes i)) code.data
 
 -- the k-th byte of each of n shards of one length, laid end to end
 abbrev pub column : ℕ → ℕ → List ℕ → ℕ → List ℕ

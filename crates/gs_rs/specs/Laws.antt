@@ -21,7 +21,8 @@ DenominatorsAreNotZero = (code : CodeShape) → IsCode code → (x : ℕ) → Is
 
 -- the values of one polynomial at the shards' points are those that the parity rows give, for both codes
 abbrev pub PointFormIsRowForm : Type 0
-PointFormIsRowForm = (code : CodeShape) (bytes : List ℕ) → IsCode code → IsCodeword code bytes ↔ HasParityRows code bytes
+PointFormIsRowForm = (code : CodeShape) (bytes : List ℕ) → IsCode code
+    → IsCodeword code bytes ↔ HasParityRows code bytes
 
 -- numbers of shards, no two of them equal, and as many as there are data shards
 pub record AreEnough (code : CodeShape) (numbers : List ℕ) : Type 0 where
@@ -32,13 +33,15 @@ pub record AreEnough (code : CodeShape) (numbers : List ℕ) : Type 0 where
 -- two blocks that have the same shards at that many numbers are the same
 abbrev pub EnoughShardsDetermineBlock : Type 0
 EnoughShardsDetermineBlock = (code : CodeShape) (len : ℕ) (numbers a b : List ℕ) → IsCode code → AreEnough code numbers
-    → IsBlock code len a → IsBlock code len b → All (λ number. shard_of len a number ≡ shard_of len b number) numbers → a ≡ b
+    → IsBlock code len a → IsBlock code len b
+    → All (λ number. shard_of len a number ≡ shard_of len b number) numbers → a ≡ b
 
 -- and whatever bytes stand there, some block has them
 abbrev pub EnoughShardsHaveBlock : Type 0
 EnoughShardsHaveBlock = (code : CodeShape) (len : ℕ) (numbers shards : List ℕ) → IsCode code → AreEnough code numbers
     → length shards ≡ shard_count code * len → All IsByte shards
-    → (block : List ℕ) × IsBlock code len block × All (λ number. shard_of len block number ≡ shard_of len shards number) numbers
+    → (block : List ℕ) × IsBlock code len block
+    × All (λ number. shard_of len block number ≡ shard_of len shards number) numbers
 
 -- without parity shards, any data shards are a block, however many they are
 abbrev pub DataAloneIsBlock : Type 0

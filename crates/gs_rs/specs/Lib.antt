@@ -4,3 +4,5 @@ pub mod Restore
 pub mod Laws
 pub mod Shards
 pub mod ShardLaws
+pub mod GroupRows
+pub mod AbsentRows

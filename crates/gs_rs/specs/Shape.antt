@@ -5,8 +5,8 @@ use Rattle.gs_gf256.specs.Field.{product, inverse}
 use Rattle.gs_rs.specs.declared.shape.Form.TheVariants.{Video, Audio}
 use Rattle.gs_rs.specs.declared.shape.CodeShape.{CodeShape}
 
--- a shape that is a code: there is a data shard, a point for each shard among the bytes below 255, and the audio code has
--- four data shards and two parity shards
+-- a shape that is a code: there is a data shard, a point for each shard among the bytes below 255, and the audio code
+-- has four data shards and two parity shards
 pub record IsCode (code : CodeShape) : Type 0 where
   pub some_data : 0 < code.data
   pub points_fit : code.data + code.parity ≤ 255
@@ -34,7 +34,8 @@ video_point d p shard = if nat_lt shard d then p + shard else shard - d
 
 -- the point at which a shard stands, by its number
 abbrev pub point : CodeShape → ℕ → ℕ
-point code shard = elim code.form [ Video ↦ video_point code.data code.parity shard | Audio ↦ slice_index audio_points shard ]
+point code shard =
+    elim code.form [ Video ↦ video_point code.data code.parity shard | Audio ↦ slice_index audio_points shard ]
 
 -- the points of the data shards
 abbrev pub data_points : CodeShape → List ℕ

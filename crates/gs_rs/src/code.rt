@@ -5,13 +5,15 @@ ghost use Rattle.gs_rs.specs.Shape.{IsCode, video_code, audio_code};
 
 use crate::shape::{CodeShape, Form, MAX_SHARDS};
 use std::marker::Model;
+use thiserror::Error;
 
 const AUDIO_DATA: usize = 4;
 
 const AUDIO_PARITY: usize = 2;
 
 /// The counts of a code are out of range.
-#[derive(Clone, Copy, Debug, PartialEq, Eq)]
+#[derive(Clone, Copy, Debug, PartialEq, Eq, Error)]
+#[error("no code has so many data and parity shards")]
 pub struct BadCounts;
 
 /// An erasure code. Contracts see it as its counts and its form.

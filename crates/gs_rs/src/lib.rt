@@ -13,21 +13,24 @@
 //! fewer than D shards are present. `code_laws` says that any D shards of a block determine it, that
 //! some block has D shards of any content, and that the polynomials give what the parity rows give.
 //!
-//! No call takes memory. `encode` makes D * P row operations (`gs_gf256::mul_add`) of `len` bytes.
-//! `restore` makes L * D of them for L absent data shards, and none where L is 0. Before them it finds
+//! No call takes memory. `encode` adds up D * P products of shards of `len` bytes, and `restore` L * D
+//! for L absent data shards, and none where L is 0: both write shards in groups of four or two, which
+//! share one reading of the others (`gs_gf256::sum_four`, `sum_two`), and the last of an odd number, or
+//! shards shorter than a block of 32 bytes, one by one (`gs_gf256::mul_add`). Before that `restore` finds
 //! the weights, free of `len`: what belongs to a present shard is found once a block, in at most
-//! 2 * D * D products and D inverses, and each absent data shard takes at most 4 * D products and
-//! D + 1 inverses more.
+//! 2 * D * D products of bytes and D inverses, and each absent data shard takes at most 4 * D products
+//! and D + 1 inverses more.
 #![tactic(auto)]
 
 mod code;
 mod encode;
+mod group;
 mod laws;
-mod pair;
 mod restore;
 mod shape;
 #[cfg(test)]
 mod tests;
+mod weights;
 
 pub use code::{BadCounts, Code};
 pub use laws::{code_laws, held_shards_hold_block};

@@ -14,14 +14,12 @@ ghost use Rattle.std.specs.Prelude.{
   OnErr,
   length,
   slice_index,
-  take,
-  map,
   All,
   bit_xor,
   min,
 };
-ghost use Rattle.gs_gf256.specs.Field.{product, quotient, field_sum};
-ghost use Rattle.gs_rs.specs.Shape.{IsCode, shard_count, point, denominator, differences};
+ghost use Rattle.gs_gf256.specs.Field.{product, field_sum};
+ghost use Rattle.gs_rs.specs.Shape.{IsCode, shard_count};
 ghost use Rattle.gs_rs.specs.Restore.{
   IsPresent,
   count_present,
@@ -32,13 +30,23 @@ ghost use Rattle.gs_rs.specs.Restore.{
   KeepsOthers,
 };
 ghost use Rattle.gs_rs.specs.Laws.{AreEnough};
+ghost use Rattle.gs_rs.specs.GroupRows.{RowsMade, row_value};
+ghost use Rattle.gs_rs.specs.AbsentRows.{
+  weight_factor,
+  AreAllAbsent,
+  AreOthers,
+  AreRestored,
+};
 
 use crate::code::Code;
-use crate::shape::{CodeShape, MAX_SHARDS, differences};
-use gs_gf256::{inv, mul, mul_add};
+use crate::group::{FEW_SHARDS, GROUP_LEN};
+use crate::shape::{CodeShape, MAX_SHARDS};
+use gs_gf256::{BLOCK_LEN, mul_add, sum_four, sum_two, write_block};
+use thiserror::Error;
 
 /// Fewer shards are present than the code has data shards.
-#[derive(Clone, Copy, Debug, PartialEq, Eq)]
+#[derive(Clone, Copy, Debug, PartialEq, Eq, Error)]
+#[error("fewer shards are present than the code has data shards")]
 pub struct TooFew;
 
 impl Code {
@@ -84,8 +92,27 @@ fn lowest_present(present: &[bool], limit: usize) -> (usize, [u8; MAX_SHARDS])
     (count, numbers)
 }
 
+/// How many of the data shards are absent, and their numbers, lowest first.
+fn absent_data(present: &[bool], limit: usize) -> (usize, [u8; MAX_SHARDS])
+    requires few { length present.now ≤ 255 }
+    requires limit { limit ≤ length present.now }
+    ensures room { result.0 ≤ length result.1 }
+    ensures numbers { AreAllAbsent present.now limit result.0 result.1 }
+{
+    let mut numbers = [0; MAX_SHARDS];
+    let mut count = 0;
+    for shard in 0..limit {
+        if !present[shard] {
+            numbers[count] = shard as u8;
+            count += 1;
+        }
+    }
+    (count, numbers)
+}
+
 impl CodeShape {
-    /// Writes each absent data shard as a weighted sum of the chosen shards.
+    /// Writes each absent data shard as a weighted sum of the chosen shards: groups of them, and the last
+    /// one, or short ones, alone.
     fn restore_absent(&self, len: usize, shards: &mut [u8], present: &[bool], chosen: &[u8])
         requires code { IsCode self.now }
         requires shards_size { length shards.old ≡ shard_count self.now * len }
@@ -95,64 +122,123 @@ impl CodeShape {
         ensures restored { RestoresAbsent self.now len present.now chosen.now shards.old shards.new }
         ensures others { KeepsOthers self.now len present.now shards.old shards.new }
     {
-        let points = self.points_of(chosen);
-        let points = &points[..self.data];
-        let factors = self.factors(points);
-        for to in 0..self.data {
-            if !present[to] {
-                let weights = self.weights(points, &factors, self.point(to));
-                add_weighted(len, shards, to, chosen, &weights);
-            }
+        let factors = self.factors(chosen);
+        let (count, absent) = absent_data(present, self.data);
+        let absent = &absent[..count];
+        let made = self.restore_groups(len, shards, chosen, &factors, absent);
+        for row in made..count {
+            let to = usize::from(absent[row]);
+            add_weighted(len, shards, to, chosen, &self.weights(chosen, &factors, to));
         }
     }
 
-    /// The points of the chosen shards.
-    fn points_of(&self, chosen: &[u8]) -> [u8; MAX_SHARDS]
+    /// Writes groups of absent shards from the first on, and answers how many shards.
+    fn restore_groups(
+        &self,
+        len: usize,
+        shards: &mut [u8],
+        chosen: &[u8],
+        factors: &[u8],
+        absent: &[u8],
+    ) -> usize
         requires code { IsCode self.now }
+        requires shards_size { length shards.old ≡ shard_count self.now * len }
         requires enough { AreEnough self.now chosen.now }
-        ensures { take self.now.data result ≡ map (point self.now) chosen.now }
+        requires factors_size { self.now.data ≤ length factors.now }
+        requires factors { (i : ℕ) → i < self.now.data → slice_index factors.now i ≡ weight_factor self.now chosen.now i }
+        requires absent { All (λ number. number < self.now.data) absent.now }
+        requires others { AreOthers chosen.now absent.now }
+        ensures within { result ≤ length absent.now }
+        ensures made { AreRestored self.now len chosen.now absent.now result shards.old shards.new }
     {
-        let mut points = [0; MAX_SHARDS];
-        for (i, number) in chosen.iter().enumerate() {
-            points[i] = self.point(usize::from(*number));
+        if len < BLOCK_LEN {
+            return 0;
         }
-        points
+        if self.data <= FEW_SHARDS {
+            let tables = &mut [0; FEW_SHARDS * GROUP_LEN];
+            self.restore_groups_by(len, shards, chosen, factors, absent, tables)
+        } else {
+            let tables = &mut [0; MAX_SHARDS * GROUP_LEN];
+            self.restore_groups_by(len, shards, chosen, factors, absent, tables)
+        }
     }
 
-    /// For each of these points what the weight of its shard has in common at all absent shards.
-    fn factors(&self, points: &[u8]) -> [u8; MAX_SHARDS]
+    /// The same, with room for the tables of a group.
+    fn restore_groups_by(
+        &self,
+        len: usize,
+        shards: &mut [u8],
+        chosen: &[u8],
+        factors: &[u8],
+        absent: &[u8],
+        tables: &mut [u8],
+    ) -> usize
         requires code { IsCode self.now }
-        requires size { length points.now ≤ 255 }
-        ensures { (i : ℕ) → i < length points.now
-            → slice_index result i
-            ≡ quotient (denominator self.now (slice_index points.now i))
-            (differences points.now (slice_index points.now i)) }
+        requires shards_size { length shards.old ≡ shard_count self.now * len }
+        requires block { BLOCK_LEN ≤ len }
+        requires enough { AreEnough self.now chosen.now }
+        requires factors_size { self.now.data ≤ length factors.now }
+        requires factors { (i : ℕ) → i < self.now.data → slice_index factors.now i ≡ weight_factor self.now chosen.now i }
+        requires absent { All (λ number. number < self.now.data) absent.now }
+        requires others { AreOthers chosen.now absent.now }
+        requires tables_size { self.now.data * GROUP_LEN ≤ length tables.old }
+        ensures within { result ≤ length absent.now }
+        ensures made { AreRestored self.now len chosen.now absent.now result shards.old shards.new }
     {
-        let mut factors = [0; MAX_SHARDS];
-        for (i, point) in points.iter().enumerate() {
-            factors[i] = mul(self.denominator(*point), inv(differences(points, *point)));
+        let mut row = 0;
+        while absent.len() - row >= 4 {
+            let targets = &absent[row..row + 4];
+            self.weight_tables(tables, chosen, factors, targets);
+            restore_four(len, shards, chosen, targets, tables);
+            row += 4;
         }
-        factors
+        if absent.len() - row >= 2 {
+            let targets = &absent[row..row + 2];
+            self.weight_tables(tables, chosen, factors, targets);
+            restore_two(len, shards, chosen, targets, tables);
+            row += 2;
+        }
+        row
     }
+}
 
-    /// The weights of the shards at these points in the absent shard at x.
-    fn weights(&self, points: &[u8], factors: &[u8], x: u8) -> [u8; MAX_SHARDS]
-        requires code { IsCode self.now }
-        requires size { length points.now ≤ 255 }
-        requires factors_size { length points.now ≤ length factors.now }
-        requires apart { All (λ point. point ≢ x) points.now }
-        ensures { (i : ℕ) → i < length points.now
-            → slice_index result i
-            ≡ quotient
-            (product (quotient (differences points.now x) (denominator self.now x)) (slice_index factors.now i))
-            (bit_xor x (slice_index points.now i)) }
-    {
-        let common = mul(differences(points, x), inv(self.denominator(x)));
-        let mut weights = [0; MAX_SHARDS];
-        for (i, point) in points.iter().enumerate() {
-            weights[i] = mul(mul(common, factors[i]), inv(x ^ *point));
-        }
-        weights
+/// Writes two absent shards, block by block. The last block ends with the shards.
+fn restore_two(len: usize, shards: &mut [u8], chosen: &[u8], targets: &[u8], tables: &[u8])
+    requires block { BLOCK_LEN ≤ len }
+    requires two { length targets.now ≡ 2 }
+    requires chosen_in { All (λ number. number * len + len ≤ length shards.old) chosen.now }
+    requires targets_in { All (λ number. number * len + len ≤ length shards.old) targets.now }
+    requires others { AreOthers chosen.now targets.now }
+    requires tables_size { length chosen.now * 64 ≤ length tables.now }
+    ensures { RowsMade 2 len (λ r. slice_index targets.now r * len)
+        (row_value shards.old len chosen.now tables.now 2) 0 0 len shards.old shards.new }
+{
+    for block in 0..len.div_ceil(BLOCK_LEN) {
+        let at = usize::min(block * BLOCK_LEN, len - BLOCK_LEN);
+        let (first, second) = sum_two(shards, len, chosen, at, tables);
+        write_block(shards, usize::from(targets[0]) * len + at, first);
+        write_block(shards, usize::from(targets[1]) * len + at, second);
+    }
+}
+
+/// Writes four absent shards, block by block. The last block ends with the shards.
+fn restore_four(len: usize, shards: &mut [u8], chosen: &[u8], targets: &[u8], tables: &[u8])
+    requires block { BLOCK_LEN ≤ len }
+    requires four { length targets.now ≡ 4 }
+    requires chosen_in { All (λ number. number * len + len ≤ length shards.old) chosen.now }
+    requires targets_in { All (λ number. number * len + len ≤ length shards.old) targets.now }
+    requires others { AreOthers chosen.now targets.now }
+    requires tables_size { length chosen.now * 128 ≤ length tables.now }
+    ensures { RowsMade 4 len (λ r. slice_index targets.now r * len)
+        (row_value shards.old len chosen.now tables.now 4) 0 0 len shards.old shards.new }
+{
+    for block in 0..len.div_ceil(BLOCK_LEN) {
+        let at = usize::min(block * BLOCK_LEN, len - BLOCK_LEN);
+        let (first, second, third, fourth) = sum_four(shards, len, chosen, at, tables);
+        write_block(shards, usize::from(targets[0]) * len + at, first);
+        write_block(shards, usize::from(targets[1]) * len + at, second);
+        write_block(shards, usize::from(targets[2]) * len + at, third);
+        write_block(shards, usize::from(targets[3]) * len + at, fourth);
     }
 }
 

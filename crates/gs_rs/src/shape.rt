@@ -1,6 +1,15 @@
 // What a code is made of: its counts of shards and its form, and what they determine, the points of the shards, the
 // coefficients of the parity rows and the denominators.
-ghost use Rattle.std.specs.Prelude.{◌≡◌, ◌+◌, ◌<◌, ◌≤◌, take};
+ghost use Rattle.std.specs.Prelude.{
+  ◌≡◌,
+  ◌+◌,
+  ◌<◌,
+  ◌≤◌,
+  take,
+  if◌then◌else◌,
+  ◌==◌,
+  bit_xor,
+};
 ghost use Rattle.gs_rs.specs.Shape.{
   IsCode,
   shard_count,
@@ -94,15 +103,28 @@ impl CodeShape {
     }
 }
 
-/// The product of `x xor y` over the points y other than x.
+/// The product of `x xor y` over the points y other than x. It is made as two products, so that one
+/// doesn't wait for the other.
 pub(crate) fn differences(points: &[u8], x: u8) -> u8
     ensures { result ≡ differences points.now x }
 {
-    let mut result = 1;
-    for y in points {
-        if *y != x {
-            result = mul(result, x ^ *y);
-        }
+    let mut even = 1;
+    let mut odd = 1;
+    let mut at = 0;
+    'pair: while points.len() - at >= 2 {
+        even = mul(even, difference(points[at], x));
+        odd = mul(odd, difference(points[at + 1], x));
+        at += 2;
     }
-    result
+    if at < points.len() {
+        even = mul(even, difference(points[at], x));
+    }
+    mul(even, odd)
+}
+
+/// The factor that a point y has in the product of the differences.
+fn difference(y: u8, x: u8) -> u8
+    ensures { result ≡ (if y == x then 1 else bit_xor x y) }
+{
+    if y == x { 1 } else { x ^ y }
 }

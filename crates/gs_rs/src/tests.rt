@@ -68,8 +68,8 @@ fn counts(rt: HostRuntime) {
 #[test]
 fn columns(rt: HostRuntime) -> Result<(), Fail> {
     const LONG: usize = 71;
-    let code = Code::video(3, 5).ok().ok_or("counts")?;
-    let mut block = [0; 8 * LONG];
+    let code = Code::video(3, 7).ok().ok_or("counts")?;
+    let mut block = [0; 10 * LONG];
     for i in 0..block.len() {
         block[i] = ((i * i * 11 + i * 3 + 9) % 256) as u8;
     }
@@ -77,13 +77,52 @@ fn columns(rt: HostRuntime) -> Result<(), Fail> {
     code.encode(LONG, source, parity);
     for k in 0..LONG {
         let column = [source[k], source[LONG + k], source[2 * LONG + k]];
-        let mut rows = [0; 5];
+        let mut rows = [0; 7];
         code.encode(1, &column, &mut rows);
-        for row in 0..5 {
+        for row in 0..7 {
             assert_eq!(rt; parity[row * LONG + k], rows[row]);
         }
     }
     Ok(())
+}
+
+// Seven absent shards are restored by a group of four, one of two, and one alone.
+#[test]
+fn groups(rt: HostRuntime) -> Result<(), Fail> {
+    let code = Code::video(8, 7).ok().ok_or("counts")?;
+    let mut source = [0; 320];
+    for i in 0..320 {
+        source[i] = ((i * i * 5 + i * 13 + 1) % 256) as u8;
+    }
+    let mut parity = [0; 280];
+    code.encode(40, &source, &mut parity);
+    let mut shards = all_but_seven(&source, &parity);
+    let outcome = code.restore(40, &mut shards, &present_but_seven());
+    assert_eq!(rt; outcome, Ok(()));
+    for i in 0..320 {
+        assert_eq!(rt; shards[i], source[i]);
+    }
+    Ok(())
+}
+
+// Of the data shards the fourth alone is there.
+fn all_but_seven(source: &[u8; 320], parity: &[u8; 280]) -> [u8; 600] {
+    let mut shards = [0xEE; 600];
+    for i in 120..160 {
+        shards[i] = source[i];
+    }
+    for i in 0..280 {
+        shards[320 + i] = parity[i];
+    }
+    shards
+}
+
+fn present_but_seven() -> [bool; 15] {
+    let mut present = [true; 15];
+    for shard in 0..8 {
+        present[shard] = shard == 3;
+    }
+    present
 }
 
 #[test]

@@ -25,7 +25,8 @@ returns-else-from-to-clause-written c = λ k hk.
     let len = c.args.len in
     let parts = c.split_at_mut-front-else-from-to.ensures in
     let to_first = to_before c.args.from c.args.to len c.if-from-to.false c.requires.apart in
-    let written : length c.mul_add-else-from-to.new.dst ≡ len = c.mul_add-else-from-to.auto.dst ∙ cut_length (c.args.to * len) len _ (omega (arith, parts.front_len)) in
+    let written : length c.mul_add-else-from-to.new.dst ≡ len = c.mul_add-else-from-to.auto.dst
+    ∙ cut_length (c.args.to * len) len _ (omega (arith, parts.front_len)) in
     front_written len c.args.from c.args.to k c.args.weight c.args.shards.now _ _ c.mul_add-else-from-to.new.dst to_first c.requires.from_in
     parts.value parts.front parts.back written hk (c.mul_add-else-from-to.ensures k (omega arith))
 

@@ -1,67 +1,52 @@
-use Rattle.std.proofs.Common.{◌≡◌, ◌≢◌, ℕ, ◌+◌, ◌*◌, List, length, take, map, sym, ap, ◌∙◌, subst, arith}
-use Rattle.std.specs.List.{All}
-use Rattle.std.proofs.lemmas.List.{length-map}
-use Rattle.gs_rs.specs.Shape.{point, shard_count}
-use Rattle.gs_rs.proofs.Restoring.{RestoredBelow, chosen_apart, points_apart, weights_are_at, numbers_fit, restored_none, restored_present, restored_more, restores_absent, keeps_others}
+use Rattle.std.proofs.Common.{◌≡◌, ◌+◌, ◌*◌, length, take, get_or, subst, sym, ap, ◌∙◌, arith}
+use Rattle.std.proofs.lemmas.List.{length-take-le}
+use Rattle.gs_rs.specs.AbsentRows.{AreRestored, shard_weight}
+use Rattle.gs_rs.proofs.AbsentRows.{absent_front}
+use Rattle.gs_rs.proofs.Restoring.{numbers_fit, absent_are_others, restored_one, restores_absent, keeps_others}
 use Rattle.gs_rs.proofs.shape.CodeShape.restore_absent.Goals as goal
-use Rattle.gs_rs.proofs.shape.CodeShape.restore_absent.Goals.{then-not-present-to, else-not-present-to}
-
-pub weights-weights-requires-clause-apart : goal.weights-weights-requires-clause-apart
-weights-weights-requires-clause-apart c =
-    let code = c.args.self.now in
-    let apart = points_apart code c.args.present.now c.args.chosen.now c.loop-to.to c.requires.code c.requires.enough c.requires.chosen_present
-    c.loop-to-test.true c.if-not-present-to.true in
-    subst (λ ps. All (λ q. q ≢ c.point.result) ps) (sym c.points_of-points.ensures)
-    (subst (λ x. All (λ q. q ≢ x) (map (point code) c.args.chosen.now)) (sym c.point.ensures) apart)
 
 pub add_weighted-requires-clause-chosen_in : goal.add_weighted-requires-clause-chosen_in
 add_weighted-requires-clause-chosen_in c =
-    numbers_fit c.args.self.now c.args.len c.args.chosen.now c.loop-to.shards c.requires.enough (c.loop-to.auto.shards ∙ c.requires.shards_size)
+    numbers_fit c.args.self.now c.args.len c.args.chosen.now c.loop-row.shards c.requires.enough
+    (c.loop-row.auto.shards ∙ c.restore_groups-made.auto.shards ∙ c.requires.shards_size)
 
-pub add_weighted-requires-clause-chosen_apart : goal.add_weighted-requires-clause-chosen_apart
-add_weighted-requires-clause-chosen_apart c =
-    chosen_apart c.args.present.now c.args.chosen.now c.loop-to.to c.requires.chosen_present c.if-not-present-to.true
-
-pub loop-to-init : goal.loop-to-init
-loop-to-init c = restored_none c.args.self.now c.args.len c.args.present.now c.args.chosen.now c.args.shards.now
-
-pub loop-to-preserved : goal.loop-to-preserved
-loop-to-preserved c =
+pub loop-row-preserved : goal.loop-row-preserved
+loop-row-preserved c =
     let code = c.args.self.now in
-    let len = c.args.len in
-    let present = c.args.present.now in
-    let numbers = c.args.chosen.now in
-    let before = c.args.shards.now in
-    let to = c.loop-to.to in
-    let restored = λ (after : List ℕ). RestoredBelow code len present numbers before after (to + 1) in
-    let points = take code.data c.points_of-points.result in
-    let size : length points ≡ code.data = ap length c.points_of-points.ensures ∙ length-map numbers (point code) ∙ c.requires.enough.count in
-    elim c.if-not-present-to.branch [
-      | then-not-present-to w ↦
-          let gone = w.if-not-present-to.true in
-          let apart = points_apart code present numbers to c.requires.code c.requires.enough c.requires.chosen_present c.loop-to-test.true gone in
-          subst restored (sym w.shards-is)
-          (restored_more code len present numbers w.weights-weights.result before c.loop-to.shards w.add_weighted.new.shards to
-          c.requires.code c.requires.enough c.requires.chosen_present c.loop-to-test.true gone c.loop-to.invariant
-          (λ i h. weights_are_at code numbers points c.factors-factors.result w.weights-weights.result w.point.result to i
-          c.points_of-points.ensures w.point.ensures c.requires.code c.requires.enough (omega arith) apart h
-          (c.factors-factors.ensures i (omega arith)) (w.weights-weights.ensures i (omega arith)))
-          w.add_weighted.ensures.written w.add_weighted.ensures.others)
-      | else-not-present-to w ↦
-          subst restored (sym w.shards-is)
-          (restored_present code len present numbers before c.loop-to.shards to c.loop-to.invariant w.if-not-present-to.false)
-    ]
+    let chosen = c.args.chosen.now in
+    let found = c.absent_data-count in
+    let numbers = take found.result.0 found.result.1 in
+    let all = absent_front c.args.present.now code.data found.result.0 found.result.1 found.ensures.room found.ensures.numbers in
+    let others = absent_are_others code.data c.args.present.now chosen numbers all c.requires.chosen_present in
+    let size : length numbers ≡ found.result.0 = length-take-le found.result.0 found.result.1 found.ensures.room in
+    let to = c.from-to.ensures in
+    let after = c.add_weighted.new.shards in
+    restored_one code c.args.len chosen numbers c.weights.result c.args.shards.now c.loop-row.shards after c.loop-row.row c.requires.enough others
+    (omega (arith, size)) c.loop-row.invariant
+    (λ i hi. c.weights.ensures i hi ∙ ap (λ n. shard_weight code chosen n i) to)
+    (λ k hk. ap (λ n. get_or after (n * c.args.len + k) 0) (sym to) ∙ c.add_weighted.ensures.written k hk)
+    (λ n k other hk. c.add_weighted.ensures.others n k (λ same. other (same ∙ to)) hk)
 
-pub returns : goal.returns
-returns c =
+pub returns-clause-restored : goal.returns-clause-restored
+returns-clause-restored c =
     let code = c.args.self.now in
-    let len = c.args.len in
-    let present = c.args.present.now in
-    let numbers = c.args.chosen.now in
-    let before = c.args.shards.now in
-    let after = c.loop-to.shards in
-    let size : length after ≡ shard_count code * len = c.loop-to.auto.shards ∙ c.requires.shards_size in
-    record {
-      restored = restores_absent code len present numbers before after c.loop-to.to size (omega arith) c.loop-to.invariant;
-      others = keeps_others code len present numbers before after c.loop-to.to c.requires.shards_size size (omega arith) c.loop-to.invariant;
-    }
+    let found = c.absent_data-count in
+    let numbers = take found.result.0 found.result.1 in
+    let all = absent_front c.args.present.now code.data found.result.0 found.result.1 found.ensures.room found.ensures.numbers in
+    let size : length numbers ≡ found.result.0 = length-take-le found.result.0 found.result.1 found.ensures.room in
+    restores_absent code c.args.len c.args.present.now c.args.chosen.now numbers c.args.shards.now c.loop-row.shards c.requires.code c.requires.enough
+    c.requires.chosen_present all (c.loop-row.auto.shards ∙ c.restore_groups-made.auto.shards ∙ c.requires.shards_size)
+    (subst (λ n. AreRestored code c.args.len c.args.chosen.now numbers n c.args.shards.now c.loop-row.shards)
+    (let e : c.loop-row.row ≡ length numbers = omega (arith, size) in e) c.loop-row.invariant)
+
+pub returns-clause-others : goal.returns-clause-others
+returns-clause-others c =
+    let code = c.args.self.now in
+    let found = c.absent_data-count in
+    let numbers = take found.result.0 found.result.1 in
+    let all = absent_front c.args.present.now code.data found.result.0 found.result.1 found.ensures.room found.ensures.numbers in
+    let size : length numbers ≡ found.result.0 = length-take-le found.result.0 found.result.1 found.ensures.room in
+    keeps_others code c.args.len c.args.present.now c.args.chosen.now numbers c.args.shards.now c.loop-row.shards all
+    c.requires.shards_size (c.loop-row.auto.shards ∙ c.restore_groups-made.auto.shards ∙ c.requires.shards_size)
+    (subst (λ n. AreRestored code c.args.len c.args.chosen.now numbers n c.args.shards.now c.loop-row.shards)
+    (let e : c.loop-row.row ≡ length numbers = omega (arith, size) in e) c.loop-row.invariant)

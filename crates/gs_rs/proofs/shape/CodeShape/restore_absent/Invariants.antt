@@ -1,5 +1,5 @@
-use Rattle.gs_rs.proofs.Restoring.{RestoredBelow}
+use Rattle.gs_rs.specs.AbsentRows.{AreRestored}
 use Rattle.gs_rs.proofs.shape.CodeShape.restore_absent.Given as goal
 
-abbrev pub invariant-loop-to : goal.invariant-loop-to
-invariant-loop-to l = RestoredBelow l.self l.len l.present l.chosen l.fn.shards l.shards l.to
+abbrev pub invariant-loop-row : goal.invariant-loop-row
+invariant-loop-row l = AreRestored l.self l.len l.chosen l.absent l.row l.fn.shards l.shards
