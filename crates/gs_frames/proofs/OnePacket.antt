@@ -5,9 +5,9 @@ use Rattle.std.proofs.lemmas.Bool.{cond-true, eq-eqb}
 use Rattle.std.proofs.lemmas.List.{take_all}
 use Rattle.byteorder.specs.Endian.{little_number}
 use Rattle.byteorder.specs.Numbers.{little_number-reads_back}
-use Rattle.gs_rtp.specs.Stream.{StreamSettings, AreWithinLimits}
+use Rattle.gs_rtp.specs.Stream.{StreamSettings, AreSettingsWithinLimits}
 use Rattle.gs_rtp.specs.declared.video.VideoHead.{VideoHead}
-use Rattle.gs_rtp.specs.Video.{video_header, IsVideoHead, FitsTypes}
+use Rattle.gs_rtp.specs.Video.{video_header, IsVideoHead, FitsHeadTypes}
 use Rattle.gs_rtp.proofs.VideoReading.{video_head-header}
 use Rattle.gs_frames.specs.Shards.{packet_header, payload_of, data_shard}
 use Rattle.gs_frames.specs.Datagrams.{datagram_of, Place, headed_shard, headed_blocks, plan_of, first_place, frame_shards, frame_datagrams}
@@ -20,7 +20,7 @@ use Rattle.gs_frames.proofs.Images.{IsParted, ceil_div-parted, length-frame_imag
 
 -- ---- it is one packet
 
-pub fits_one_packet : (s : StreamSettings) (unit : List ℕ) → AreWithinLimits s → s.percentage ≡ 0 → length unit ≤ 1000 → FitsOnePacket s unit
+pub fits_one_packet : (s : StreamSettings) (unit : List ℕ) → AreSettingsWithinLimits s → s.percentage ≡ 0 → length unit ≤ 1000 → FitsOnePacket s unit
 fits_one_packet s unit limits bare short =
     let packet_least : 1024 ≤ s.packet = limits.packet_least in
     let ssrc : s.ssrc ≤ 9999 = limits.ssrc_greatest in
@@ -88,7 +88,7 @@ length-lone_datagram s count frame time unit fits =
     let room : 16 + (8 + length unit) ≤ s.packet = fits.room in
     omega (arith, length-video_header (lone_head s count frame time) (frame_image 2 unit (payload_of s)), length-lone_image s 2 unit fits)
 
-lone_head-fits : (s : StreamSettings) (count frame time : ℕ) → s.ssrc < 2 ^ 32 → frame ≤ 1048576 → FitsTypes (lone_head s count frame time)
+lone_head-fits : (s : StreamSettings) (count frame time : ℕ) → s.ssrc < 2 ^ 32 → frame ≤ 1048576 → FitsHeadTypes (lone_head s count frame time)
 lone_head-fits s count frame time ssrc least =
     record {
       sequence = omega arith;

@@ -7,7 +7,7 @@ use Rattle.byteorder.specs.Endian.{little_bytes, little_number}
 use Rattle.gs_gf256.specs.Field.{IsByte}
 use Rattle.gs_rtp.specs.Stream.{StreamSettings}
 use Rattle.gs_rtp.specs.declared.video.VideoHead.{VideoHead}
-use Rattle.gs_rtp.specs.Video.{video_header, IsVideoHead, FitsTypes}
+use Rattle.gs_rtp.specs.Video.{video_header, IsVideoHead, FitsHeadTypes}
 use Rattle.gs_rtp.proofs.VideoReading.{video_head-header}
 use Rattle.gs_frames.specs.Datagrams.{Place, shard_head, headed_shard, datagram_of}
 use Rattle.gs_frames.specs.Plan.{BlockPlan}
@@ -86,7 +86,7 @@ head-grammar s plan place count index shard h p within = record {
 head-fits : (s : StreamSettings) (plan : BlockPlan) (place : Place) (count index : ℕ) (a b c d flags extra : ℕ) (payload : List ℕ) → s.ssrc < 2 ^ 32
     → IsPlace place → IsWithinGrammar plan → index < plan.data_shards + plan.parity_shards → IsByte a → IsByte b → IsByte c → IsByte d → IsByte flags
     → IsByte extra
-    → FitsTypes (shard_head s place plan count index (shard_with a b c d flags extra payload))
+    → FitsHeadTypes (shard_head s place plan count index (shard_with a b c d flags extra payload))
 head-fits s plan place count index a b c d flags extra payload ssrc h p within ha hb hc hd hf he =
     let frame : place.frame ≤ 1048576 = h.frame_greatest in
     let block : place.block ≤ place.last_block = h.block_within in

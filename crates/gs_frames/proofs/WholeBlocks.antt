@@ -12,7 +12,7 @@ use Rattle.std.proofs.lemmas.Option.{get_or_from_slice_get, cond_some}
 use Rattle.gs_gf256.specs.Field.{IsByte}
 use Rattle.gs_rs.specs.declared.shape.CodeShape.{CodeShape}
 use Rattle.gs_rs.specs.Shape.{video_code, IsCode}
-use Rattle.gs_rs.proofs.Points.{is_video_code}
+use Rattle.gs_rs.proofs.Points.{IsCode-video}
 use Rattle.gs_rtp.specs.Stream.{StreamSettings}
 use Rattle.gs_rtp.specs.Video.{parity_count}
 use Rattle.gs_rtp.proofs.VideoHeads.{parity_count-zero}
@@ -62,7 +62,7 @@ map-by_places g f d shards count each =
 -- a block with parity has a code, and one without has no parity shards
 code_or_bare : (plan : BlockPlan) → IsWithinGrammar plan → IsCode (video_code plan.data_shards plan.parity_shards) ⊎ (plan.parity_shards ≡ 0)
 code_or_bare plan h = elim (cases_lt 0 plan.percentage) [
-  | inl coded ↦ inl (is_video_code plan.data_shards plan.parity_shards (omega (arith, h.shards_least)) (h.codable coded))
+  | inl coded ↦ inl (IsCode-video plan.data_shards plan.parity_shards (omega (arith, h.shards_least)) (h.codable coded))
   | inr bare ↦
       let zero_is : plan.percentage ≡ 0 = omega arith in
       inr (h.parity ∙ ap (parity_count plan.data_shards) zero_is ∙ parity_count-zero plan.data_shards)

@@ -1,5 +1,6 @@
 -- Frames that are one packet, without parity.
 use Rattle.std.specs.Prelude.{ℕ, ◌≡◌, ◌+◌, ◌*◌, ◌%◌, ◌^◌, ◌≤◌, ◌<◌, List, ◌++◌, length, drop, Some}
+use Rattle.gs_rtp.specs.Limits.{most_packet}
 use Rattle.gs_rtp.specs.Stream.{StreamSettings}
 use Rattle.gs_rtp.specs.declared.video.VideoHead.{VideoHead}
 use Rattle.gs_rtp.specs.Video.{video_header}
@@ -12,7 +13,7 @@ use Rattle.gs_frames.specs.Received.{Received, carried_shard}
 pub record FitsOnePacket (settings : StreamSettings) (unit : List ℕ) : Type 0 where
   pub without_parity : settings.percentage ≡ 0
   pub room : packet_header + (header_length + length unit) ≤ settings.packet
-  pub packet_greatest : settings.packet ≤ 1440
+  pub packet_greatest : settings.packet ≤ most_packet
   pub ssrc_greatest : settings.ssrc < 2 ^ 32
 
 -- such a frame goes out

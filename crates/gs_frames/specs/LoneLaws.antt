@@ -2,6 +2,7 @@
 -- came before is one too.
 use Rattle.std.specs.Prelude.{ℕ, ◌≡◌, ◌+◌, ◌-◌, ◌≤◌, ◌<◌, List, [], ◌∷◌, ◌++◌}
 use Rattle.std.specs.List.{All}
+use Rattle.gs_rtp.specs.Limits.{most_frame}
 use Rattle.gs_rtp.specs.Stream.{StreamSettings}
 use Rattle.gs_frames.specs.Datagrams.{frame_datagrams}
 use Rattle.gs_frames.specs.Received.{Received, IsReceived, greatest}
@@ -46,7 +47,7 @@ LoneFrameIsOneDatagram =
 abbrev pub LoneDatagramIsReceived : Type 0
 LoneDatagramIsReceived =
     (settings : StreamSettings) (count frame time : ℕ) (unit : List ℕ) → FitsOnePacket settings unit → 1 ≤ frame
-    → frame ≤ 1048576
+    → frame ≤ most_frame
     → IsReceived settings (lone_datagram settings count frame time unit) (lone_received settings count frame time unit)
     × ((lone : IsLone settings (lone_received settings count frame time unit)) × (lone.unit ≡ unit))
 
@@ -81,12 +82,12 @@ abbrev pub LoneDatagramIsHanded : Type 0
 LoneDatagramIsHanded =
     (settings : StreamSettings) (came : List (List ℕ)) (count frame time : ℕ) (unit : List ℕ) → AreLone settings came
     → FitsOnePacket settings unit
-    → frame ≤ 1048576 → greatest_of settings came < frame
+    → frame ≤ most_frame → greatest_of settings came < frame
     → IsNewDatagram settings (lone_datagram settings count frame time unit) came frame unit
 
 abbrev pub LateLoneDatagramIsPassedBy : Type 0
 LateLoneDatagramIsPassedBy =
     (settings : StreamSettings) (came : List (List ℕ)) (count frame time : ℕ) (unit : List ℕ) → AreLone settings came
     → FitsOnePacket settings unit
-    → 1 ≤ frame → frame ≤ greatest_of settings came → frame ≤ 1048576
+    → 1 ≤ frame → frame ≤ greatest_of settings came → frame ≤ most_frame
     → IsPassedDatagram settings (lone_datagram settings count frame time unit) came

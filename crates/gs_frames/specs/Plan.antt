@@ -1,5 +1,6 @@
 -- How a frame of n packets is parted into blocks of shards for the erasure code.
 use Rattle.std.specs.Prelude.{ℕ, ◌+◌, ◌-◌, ◌*◌, ◌/◌, Bool, ◌&&◌, List, [], ◌∷◌, ◌++◌, map, replicate, nat_lt, nat_le, if◌then◌else◌}
+use Rattle.gs_rtp.specs.Limits.{most_last_block, most_shards_of_block}
 use Rattle.gs_rtp.specs.Video.{parity_count}
 use Rattle.gs_frames.specs.Image.{ceil_div}
 
@@ -14,10 +15,10 @@ abbrev pub most_shards : ℕ → ℕ
 most_shards percentage = 25500 / (100 + percentage)
 
 abbrev pub most_blocks : ℕ
-most_blocks = 4
+most_blocks = most_last_block + 1
 
 abbrev pub most_bare : ℕ
-most_bare = 1023
+most_bare = most_shards_of_block
 
 -- there is parity: it is asked for, and the blocks that it makes aren't too many
 abbrev pub has_parity : ℕ → ℕ → Bool

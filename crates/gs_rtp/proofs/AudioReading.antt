@@ -5,7 +5,7 @@ use Rattle.std.specs.Prelude.{◌==◌, ◌&&◌, not, nat_lt, slice_index}
 use Rattle.byteorder.specs.Endian.{big_from}
 use Rattle.byteorder.specs.Numbers.{big_number-reads_back}
 use Rattle.gs_rtp.specs.declared.audio.AudioHead.{AudioHead}
-use Rattle.gs_rtp.specs.Stream.{StreamSettings, AreWithinLimits}
+use Rattle.gs_rtp.specs.Stream.{StreamSettings, AreSettingsWithinLimits}
 use Rattle.gs_rtp.specs.Audio.{block_units, block_parity, audio_header, unit_header, parity_header, is_time, IsAudioDatagram, ReadsBackAudio}
 
 -- the time of a unit, and its number again
@@ -32,7 +32,7 @@ started : (audio : ℕ) → audio ≢ 0 → not (audio == 0) ≡ true
 started audio some = grind (arith, nat_tests)
 
 -- bytes with these fields are a unit's datagram
-unit-is : (settings : StreamSettings) (bytes : List ℕ) (n ssrc : ℕ) → AreWithinLimits settings → settings.audio ≢ 0 → n < 16777216
+unit-is : (settings : StreamSettings) (bytes : List ℕ) (n ssrc : ℕ) → AreSettingsWithinLimits settings → settings.audio ≢ 0 → n < 16777216
     → slice_index bytes 0 ≡ 128 → slice_index bytes 1 ≡ 97 → length bytes ≡ 12 + settings.audio
     → big_from 4 4 bytes ≡ n * settings.duration → big_from 8 4 bytes ≡ ssrc
     → IsAudioDatagram settings bytes (record { parity = false; shard = n % 4; block = n / 4; ssrc = ssrc })
@@ -45,7 +45,7 @@ unit-is settings bytes n ssrc limits some few first kind whole time source =
     rw (first, kind, whole, time, source, started settings.audio some, on_time, long, times.1) refl
 
 -- bytes with these fields are a parity shard's datagram
-parity-is : (settings : StreamSettings) (bytes : List ℕ) (shard k ssrc : ℕ) → AreWithinLimits settings → settings.audio ≢ 0 → k * 4 < 16777216 → shard < 2
+parity-is : (settings : StreamSettings) (bytes : List ℕ) (shard k ssrc : ℕ) → AreSettingsWithinLimits settings → settings.audio ≢ 0 → k * 4 < 16777216 → shard < 2
     → slice_index bytes 0 ≡ 128 → slice_index bytes 1 ≡ 127 → length bytes ≡ 24 + settings.audio
     → slice_index bytes 12 ≡ shard → big_from 16 4 bytes ≡ k * 4 * settings.duration → big_from 8 4 bytes ≡ ssrc
     → IsAudioDatagram settings bytes (record { parity = true; shard = shard; block = k; ssrc = ssrc })
@@ -59,9 +59,10 @@ parity-is settings bytes shard k ssrc limits some few small first kind whole num
     let back : k * 4 / 4 ≡ k = omega arith in
     rw (first, kind, whole, number, time, source, started settings.audio some, on_time, long, is_small, times.1, back) refl
 
-pub unit-reads_back : (settings : StreamSettings) (shard block ssrc : ℕ) (unit : List ℕ) → AreWithinLimits settings → settings.audio ≢ 0
+pub unit-reads_back : (settings : StreamSettings) (shard block ssrc : ℕ) (unit : List ℕ) → AreSettingsWithinLimits settings → settings.audio ≢ 0
     → shard < 4 → block * 4 < 16777216 → ssrc < 2 ^ 32 → length unit ≡ settings.audio
-    → IsAudioDatagram settings (unit_header settings (record { parity = false; shard = shard; block = block; ssrc = ssrc }) ++ unit) (record { parity = false; shard = shard; block = block; ssrc = ssrc })
+    → IsAudioDatagram settings (unit_header settings (record { parity = false; shard = shard; block = block; ssrc = ssrc }) ++ unit)
+    (record { parity = false; shard = shard; block = block; ssrc = ssrc })
 unit-reads_back settings shard block ssrc unit limits some small few fits len =
     let h : AudioHead = record { parity = false; shard = shard; block = block; ssrc = ssrc } in
     let n : ℕ = block * 4 + shard in
@@ -72,19 +73,22 @@ unit-reads_back settings shard block ssrc unit limits some small few fits len =
     (big_number-reads_back 4 (n * settings.duration) [] (time_fits settings.duration n limits.duration_known below)) (big_number-reads_back 4 ssrc [] fits)
     ∙ rw (shard_is, block_is) refl
 
-pub parity-reads_back : (settings : StreamSettings) (shard block ssrc : ℕ) (bytes : List ℕ) → AreWithinLimits settings → settings.audio ≢ 0
+pub parity-reads_back : (settings : StreamSettings) (shard block ssrc : ℕ) (bytes : List ℕ) → AreSettingsWithinLimits settings → settings.audio ≢ 0
     → shard < 2 → block * 4 < 16777216 → ssrc < 2 ^ 32 → length bytes ≡ settings.audio
-    → IsAudioDatagram settings (parity_header settings (record { parity = true; shard = shard; block = block; ssrc = ssrc }) ++ bytes) (record { parity = true; shard = shard; block = block; ssrc = ssrc })
+    → IsAudioDatagram settings (parity_header settings (record { parity = true; shard = shard; block = block; ssrc = ssrc }) ++ bytes)
+    (record { parity = true; shard = shard; block = block; ssrc = ssrc })
 parity-reads_back settings shard block ssrc bytes limits some small few fits len =
     let h : AudioHead = record { parity = true; shard = shard; block = block; ssrc = ssrc } in
     parity-is settings (parity_header settings h ++ bytes) shard block ssrc limits some few small refl refl (omega arith) refl
-    (big_number-reads_back 4 (block * 4 * settings.duration) [] (time_fits settings.duration (block * 4) limits.duration_known few)) (big_number-reads_back 4 ssrc [] fits)
+    (big_number-reads_back 4 (block * 4 * settings.duration) [] (time_fits settings.duration (block * 4) limits.duration_known few))
+    (big_number-reads_back 4 ssrc [] fits)
 
 -- the header of either
 pub audio-reads_back : ReadsBackAudio
 audio-reads_back settings h shard limits some grammar fits len =
     let P : Bool → Type 0 = λ parity. h.shard < (if parity then block_parity else block_units)
-    → IsAudioDatagram settings (audio_header settings (record { parity = parity; shard = h.shard; block = h.block; ssrc = h.ssrc }) ++ shard) (record { parity = parity; shard = h.shard; block = h.block; ssrc = h.ssrc }) in
+    → IsAudioDatagram settings (audio_header settings (record { parity = parity; shard = h.shard; block = h.block; ssrc = h.ssrc }) ++ shard)
+    (record { parity = parity; shard = h.shard; block = h.block; ssrc = h.ssrc }) in
     let cases : (parity : Bool) → P parity = λ parity. elim parity as P [
       | true ↦ λ small. parity-reads_back settings h.shard h.block h.ssrc shard limits some small grammar.block fits len
       | false ↦ λ small. unit-reads_back settings h.shard h.block h.ssrc shard limits some small grammar.block fits len

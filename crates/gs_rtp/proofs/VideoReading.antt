@@ -5,7 +5,7 @@ use Rattle.std.proofs.lemmas.Bool.Decides.{nat_tests}
 use Rattle.byteorder.specs.Endian.{big_from, little_from}
 use Rattle.byteorder.specs.Numbers.{big_number-reads_back, little_number-reads_back}
 use Rattle.gs_rtp.specs.declared.video.VideoHead.{VideoHead}
-use Rattle.gs_rtp.specs.Video.{IsVideoHead, is_video_head, FitsTypes, block_byte, fec_info, video_header, short_video_header, fields_after, video_fields, is_video_datagram, IsVideoBytes, video_head}
+use Rattle.gs_rtp.specs.Video.{IsVideoHead, is_video_head, FitsHeadTypes, block_byte, fec_info, video_header, short_video_header, fields_after, video_fields, is_video_datagram, IsVideoBytes, video_head}
 use Rattle.gs_rtp.proofs.VideoHeads.{IsVideoHead-index}
 
 -- what the test of a head says
@@ -50,7 +50,7 @@ same_head sequence timestamp ssrc stream_index frame flags extra multi_flags blo
     rw (a, b, c, d, e, f, g, h', i, j, k, l, m) refl
 
 -- the word of a header
-fec_info-lt : (h : VideoHead) → FitsTypes h → IsVideoHead h → fec_info h < 256 ^ 4
+fec_info-lt : (h : VideoHead) → FitsHeadTypes h → IsVideoHead h → fec_info h < 256 ^ 4
 fec_info-lt h fits grammar =
     let index = IsVideoHead-index h grammar in
     let shards : h.shards ≤ 1023 = grammar.shards_greatest in
@@ -58,7 +58,7 @@ fec_info-lt h fits grammar =
     omega arith
 
 -- bytes that hold each field of a head at its place, its bits put together, have that head
-fields_after-is : (start : ℕ) (bytes : List ℕ) (h : VideoHead) → FitsTypes h → IsVideoHead h
+fields_after-is : (start : ℕ) (bytes : List ℕ) (h : VideoHead) → FitsHeadTypes h → IsVideoHead h
     → big_from 2 2 bytes ≡ h.sequence → big_from 4 4 bytes ≡ h.timestamp → big_from 8 4 bytes ≡ h.ssrc
     → little_from start 4 bytes ≡ h.stream_index → little_from (start + 4) 4 bytes ≡ h.frame
     → slice_index bytes (start + 8) ≡ h.flags → slice_index bytes (start + 9) ≡ h.extra → slice_index bytes (start + 10) ≡ h.multi_flags
@@ -83,7 +83,7 @@ fields_after-is start bytes h fits grammar sequence timestamp ssrc stream_index 
     (ap (λ (n : ℕ). n / 2 ^ 4 % 2 ^ 8) word ∙ percentage_is)
 
 -- the fields that a reader finds are those that were written
-pub video_fields-header : (h : VideoHead) (payload : List ℕ) → FitsTypes h → IsVideoHead h → video_fields (video_header h ++ payload) ≡ h
+pub video_fields-header : (h : VideoHead) (payload : List ℕ) → FitsHeadTypes h → IsVideoHead h → video_fields (video_header h ++ payload) ≡ h
 video_fields-header h payload fits grammar =
     fields_after-is 16 (video_header h ++ payload) h fits grammar
     (big_number-reads_back 2 h.sequence [] fits.sequence) (big_number-reads_back 4 h.timestamp [] fits.timestamp)
@@ -92,7 +92,7 @@ video_fields-header h payload fits grammar =
     (little_number-reads_back 4 (fec_info h) [] (fec_info-lt h fits grammar))
 
 -- the same of the short header
-pub video_fields-short : (h : VideoHead) (payload : List ℕ) → FitsTypes h → IsVideoHead h → video_fields (short_video_header h ++ payload) ≡ h
+pub video_fields-short : (h : VideoHead) (payload : List ℕ) → FitsHeadTypes h → IsVideoHead h → video_fields (short_video_header h ++ payload) ≡ h
 video_fields-short h payload fits grammar =
     fields_after-is 12 (short_video_header h ++ payload) h fits grammar
     (big_number-reads_back 2 h.sequence [] fits.sequence) (big_number-reads_back 4 h.timestamp [] fits.timestamp)
@@ -134,7 +134,7 @@ video_head-of packet bytes h =
     ap (λ (b : Bool). if b then Some (video_fields bytes) else None) (IsVideoBytes-tests packet bytes h)
 
 -- the head of a written datagram
-pub video_head-header : (packet : ℕ) (h : VideoHead) (payload : List ℕ) → FitsTypes h → IsVideoHead h → length payload + 16 ≡ packet
+pub video_head-header : (packet : ℕ) (h : VideoHead) (payload : List ℕ) → FitsHeadTypes h → IsVideoHead h → length payload + 16 ≡ packet
     → video_head packet (video_header h ++ payload) ≡ Some h
 video_head-header packet h payload fits grammar len =
     let fields = video_fields-header h payload fits grammar in
@@ -146,7 +146,7 @@ video_head-header packet h payload fits grammar len =
     video_head-of packet (video_header h ++ payload) bytes ∙ ap (λ (g : VideoHead). Some g) fields
 
 -- the same of the short header
-pub video_head-short : (packet : ℕ) (h : VideoHead) (payload : List ℕ) → FitsTypes h → IsVideoHead h → length payload + 16 ≡ packet
+pub video_head-short : (packet : ℕ) (h : VideoHead) (payload : List ℕ) → FitsHeadTypes h → IsVideoHead h → length payload + 16 ≡ packet
     → video_head packet (short_video_header h ++ payload) ≡ Some h
 video_head-short packet h payload fits grammar len =
     let fields = video_fields-short h payload fits grammar in

@@ -35,7 +35,8 @@ IsWritten-field place n was bytes now field part room len h wrote =
     let front : take place now ≡ bytes = ap (take place) h.now_is ∙ take_at bytes (drop place was) place h.place_is in
     let back : drop place now ≡ drop place was = ap (drop place) h.now_is ∙ drop_at bytes (drop place was) place h.place_is in
     let rest : between place (length now) now ≡ drop place was = take_all (length now - place) (drop place now) (omega (arith, length-drop place now)) ∙ back in
-    let after : part ≡ field ++ drop (place + n) was = wrote ∙ ap (λ (l : List ℕ). field ++ drop n l) rest ∙ ap (λ (l : List ℕ). field ++ l) (drop-drop n place was) in
+    let after : part ≡ field ++ drop (place + n) was = wrote ∙ ap (λ (l : List ℕ). field ++ drop n l) rest
+    ∙ ap (λ (l : List ℕ). field ++ l) (drop-drop n place was) in
     let none : drop (length now - place) (drop place now) ≡ [] = drop_all (length now - place) (drop place now) (omega (arith, length-drop place now)) in
     record {
       place_is = omega (arith, length-append bytes field, h.place_is);

@@ -3,7 +3,7 @@
 use Rattle.std.specs.Prelude.{ℕ, ◌≡◌, ◌+◌, ◌*◌, ◌/◌, ◌%◌, ◌^◌, ◌<◌, ◌≢◌, List, ◌∷◌, ◌++◌, length, slice_index, Bool, true, false, ◌&&◌, not, nat_lt, ◌==◌, if◌then◌else◌, Option, Some, None}
 use Rattle.byteorder.specs.Endian.{big_bytes, big_from}
 use Rattle.gs_rtp.specs.declared.audio.AudioHead.{AudioHead}
-use Rattle.gs_rtp.specs.Stream.{StreamSettings, AreWithinLimits}
+use Rattle.gs_rtp.specs.Stream.{StreamSettings, AreSettingsWithinLimits}
 
 -- units of a block, and shards of parity of it
 abbrev pub block_units : ℕ
@@ -51,7 +51,8 @@ unit_header settings h =
 -- the twelve bytes: the shard, the payload type of a unit, and the sequence number and time of the block's first unit
 abbrev pub parity_block : StreamSettings → AudioHead → List ℕ
 parity_block settings h =
-    h.shard ∷ unit_type ∷ big_bytes 2 (base_of h % 2 ^ 16) ++ big_bytes 4 (base_of h * settings.duration) ++ big_bytes 4 h.ssrc
+    h.shard ∷ unit_type ∷ big_bytes 2 (base_of h % 2 ^ 16) ++ big_bytes 4 (base_of h * settings.duration)
+    ++ big_bytes 4 h.ssrc
 
 abbrev pub parity_header : StreamSettings → AudioHead → List ℕ
 parity_header settings h =
@@ -70,7 +71,8 @@ is_time settings units time = time % (settings.duration * units) == 0 && nat_lt 
 
 abbrev pub is_unit_datagram : StreamSettings → List ℕ → Bool
 is_unit_datagram settings bytes =
-    slice_index bytes 1 == unit_type && length bytes == fixed_length + settings.audio && is_time settings 1 (big_from 4 4 bytes)
+    slice_index bytes 1 == unit_type && length bytes == fixed_length + settings.audio
+    && is_time settings 1 (big_from 4 4 bytes)
 
 abbrev pub is_parity_datagram : StreamSettings → List ℕ → Bool
 is_parity_datagram settings bytes =
@@ -93,8 +95,8 @@ parity_head settings bytes = record {
   ssrc = big_from 8 4 bytes;
 }
 
--- The head of a datagram, where its bytes are in the grammar: RTP version 2, a known payload type with its length, and a
--- time of the session. A stream without audio has no audio datagram.
+-- The head of a datagram, where its bytes are in the grammar: RTP version 2, a known payload type with its length, and
+-- a time of the session. A stream without audio has no audio datagram.
 abbrev pub audio_head : StreamSettings → List ℕ → Option AudioHead
 audio_head settings bytes =
     if not (settings.audio == 0) && slice_index bytes 0 / 2 ^ 6 == 2
@@ -110,5 +112,5 @@ IsAudioDatagram settings bytes head = audio_head settings bytes ≡ Some head
 abbrev pub ReadsBackAudio : Type 0
 ReadsBackAudio =
     (settings : StreamSettings) (h : AudioHead) (shard : List ℕ)
-    → AreWithinLimits settings → settings.audio ≢ 0 → IsAudioHead h → h.ssrc < 2 ^ 32 → length shard ≡ settings.audio
+    → AreSettingsWithinLimits settings → settings.audio ≢ 0 → IsAudioHead h → h.ssrc < 2 ^ 32 → length shard ≡ settings.audio
     → IsAudioDatagram settings (audio_header settings h ++ shard) h

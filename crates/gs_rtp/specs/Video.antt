@@ -2,6 +2,7 @@
 -- reserved bytes), and 16 bytes that place the datagram's shard in its frame.
 use Rattle.std.specs.Prelude.{◌≡◌, ◌↔◌, ◌==◌, ◌&&◌, ◌||◌, ◌≤◌, ◌<◌, ℕ, ◌+◌, ◌*◌, ◌/◌, ◌%◌, ◌^◌, nat_lt, nat_le, if◌then◌else◌, Bool, IsTrue, List, [], ◌∷◌, ◌++◌, length, take, drop, slice_index, Option, Some, None}
 use Rattle.byteorder.specs.Endian.{big_from, little_from, big_bytes, little_bytes}
+use Rattle.gs_rtp.specs.Limits.{most_frame, most_last_block, most_shards_of_block, most_shards_of_code}
 use Rattle.gs_rtp.specs.declared.video.VideoHead.{VideoHead}
 
 -- how many parity shards a block of so many data shards has at a percentage, rounded up
@@ -11,16 +12,16 @@ parity_count data_shards percentage = (data_shards * percentage + 99) / 100
 -- a head in the grammar
 pub record IsVideoHead (h : VideoHead) : Type 0 where
   pub frame_least : 1 ≤ h.frame
-  pub frame_greatest : h.frame ≤ 1048576
+  pub frame_greatest : h.frame ≤ most_frame
   pub block : h.block ≤ h.last_block
-  pub last_block : h.last_block ≤ 3
+  pub last_block : h.last_block ≤ most_last_block
   pub shards_least : 1 ≤ h.shards
-  pub shards_greatest : h.shards ≤ 1023
+  pub shards_greatest : h.shards ≤ most_shards_of_block
   pub index : h.index < h.shards + parity_count h.shards h.percentage
-  pub codable : 0 < h.percentage → h.shards + parity_count h.shards h.percentage ≤ 255
+  pub codable : 0 < h.percentage → h.shards + parity_count h.shards h.percentage ≤ most_shards_of_code
 
 -- each field is a value of its type
-pub record FitsTypes (h : VideoHead) : Type 0 where
+pub record FitsHeadTypes (h : VideoHead) : Type 0 where
   pub sequence : h.sequence < 2 ^ 16
   pub timestamp : h.timestamp < 2 ^ 32
   pub ssrc : h.ssrc < 2 ^ 32
@@ -38,11 +39,11 @@ pub record FitsTypes (h : VideoHead) : Type 0 where
 -- the test of `IsVideoHead`
 abbrev pub is_video_head : VideoHead → Bool
 is_video_head h =
-    nat_le 1 h.frame && nat_le h.frame 1048576
-    && nat_le h.block h.last_block && nat_le h.last_block 3
-    && nat_le 1 h.shards && nat_le h.shards 1023
+    nat_le 1 h.frame && nat_le h.frame most_frame
+    && nat_le h.block h.last_block && nat_le h.last_block most_last_block
+    && nat_le 1 h.shards && nat_le h.shards most_shards_of_block
     && nat_lt h.index (h.shards + parity_count h.shards h.percentage)
-    && (h.percentage == 0 || nat_le (h.shards + parity_count h.shards h.percentage) 255)
+    && (h.percentage == 0 || nat_le (h.shards + parity_count h.shards h.percentage) most_shards_of_code)
 
 -- the block and the frame's last block in one byte, bits 4 and 5, and 6 and 7
 abbrev pub block_byte : VideoHead → ℕ
@@ -135,12 +136,12 @@ ReadsVideoExactly =
 abbrev pub ReadsBackVideo : Type 0
 ReadsBackVideo =
     (packet : ℕ) (h : VideoHead) (payload : List ℕ)
-    → FitsTypes h → IsVideoHead h → length payload + 16 ≡ packet
+    → FitsHeadTypes h → IsVideoHead h → length payload + 16 ≡ packet
     → IsVideoDatagram packet (video_header h ++ payload) h
 
 -- so does the short header
 abbrev pub ReadsShortVideo : Type 0
 ReadsShortVideo =
     (packet : ℕ) (h : VideoHead) (payload : List ℕ)
-    → FitsTypes h → IsVideoHead h → length payload + 16 ≡ packet
+    → FitsHeadTypes h → IsVideoHead h → length payload + 16 ≡ packet
     → IsVideoDatagram packet (short_video_header h ++ payload) h

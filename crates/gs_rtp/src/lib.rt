@@ -13,6 +13,7 @@
 #![tactic(auto)]
 
 mod audio;
+mod limits;
 mod number;
 mod settings;
 mod video;
@@ -21,12 +22,13 @@ pub use audio::{
     AUDIO_BLOCK_PARITY, AUDIO_BLOCK_UNITS, AUDIO_PARITY_HEADER_LENGTH, AUDIO_UNIT_HEADER_LENGTH,
     AUDIO_UNITS_END, AudioHead, audio_header_reads_back, read_audio, write_audio,
 };
-pub use settings::{
-    AUDIO_GREATEST, FPS_GREATEST, FPS_LEAST, MINIMUM_GREATEST, PACKET_GREATEST, PACKET_LEAST,
-    PERCENTAGE_GREATEST, SSRC_GREATEST, SSRC_LEAST, Settings,
+pub use limits::{
+    CODE_SHARDS_GREATEST, DURATION_LONG, DURATION_SHORT, FPS_GREATEST, FPS_LEAST, FRAME_GREATEST,
+    LAST_BLOCK_GREATEST, MINIMUM_GREATEST, PACKET_GREATEST, PACKET_LEAST, PERCENTAGE_GREATEST,
+    SHARDS_GREATEST, SSRC_GREATEST, SSRC_LEAST,
 };
+pub use settings::Settings;
 pub use video::{
-    CODE_SHARDS_GREATEST, FRAME_GREATEST, LAST_BLOCK_GREATEST, SHARDS_GREATEST,
     VIDEO_HEADER_LENGTH, VideoHead, read_video, short_video_header_reads_back, video_head_is_exact,
     video_head_is_tested, video_header_reads_back, write_video,
 };

@@ -1,39 +1,15 @@
 // What host and client agree on before a stream begins.
 
 ghost use Rattle.std.specs.Prelude.{◌≡◌, ◌≤◌, ◌↔◌, ◌||◌, ◌==◌, IsTrue, IsSome, IfSome};
-ghost use Rattle.gs_rtp.specs.Settings.{IsWithinLimits};
+ghost use Rattle.gs_bytes.specs.Limits.{most_audio};
+ghost use Rattle.gs_rtp.specs.Limits.{least_packet, most_packet, most_percentage, most_minimum, least_fps, most_fps, short_duration, long_duration, least_ssrc, most_ssrc};
+ghost use Rattle.gs_rtp.specs.Settings.{AreNumbersOfSettings};
 
-/// The least packet size, in bytes.
-pub const PACKET_LEAST: u16 = 1_024;
-
-/// The greatest packet size, in bytes.
-pub const PACKET_GREATEST: u16 = 1_440;
-
-/// The greatest percentage of parity.
-pub const PERCENTAGE_GREATEST: u8 = 100;
-
-/// The greatest number of parity shards that each block has at least.
-pub const MINIMUM_GREATEST: u8 = 2;
-
-/// The least number of frames per second.
-pub const FPS_LEAST: u16 = 1;
-
-/// The greatest number of frames per second.
-pub const FPS_GREATEST: u16 = 240;
-
-// The durations of an audio unit, in milliseconds.
-const DURATION_SHORT: u8 = 5;
-
-const DURATION_LONG: u8 = 10;
-
-/// The greatest length of an audio unit, in bytes.
-pub const AUDIO_GREATEST: u16 = 1_400;
-
-/// The least number of a session.
-pub const SSRC_LEAST: u32 = 1;
-
-/// The greatest number of a session.
-pub const SSRC_GREATEST: u32 = 9_999;
+use crate::limits::{
+    DURATION_LONG, DURATION_SHORT, FPS_GREATEST, FPS_LEAST, MINIMUM_GREATEST, PACKET_GREATEST,
+    PACKET_LEAST, PERCENTAGE_GREATEST, SSRC_GREATEST, SSRC_LEAST,
+};
+use gs_bytes::MOST_AUDIO;
 
 /// The settings of a session's stream.
 #[derive(Clone, Copy, Debug, PartialEq, Eq)]
@@ -52,16 +28,16 @@ pub struct Settings {
     pub audio: u16,
     /// The RTP synchronization source, which is the session's number.
     pub ssrc: u32,
-    pub ghost packet_least: { 1024 ≤ packet },
-    pub ghost packet_greatest: { packet ≤ 1440 },
-    pub ghost percentage_greatest: { percentage ≤ 100 },
-    pub ghost minimum_greatest: { minimum ≤ 2 },
-    pub ghost fps_least: { 1 ≤ fps },
-    pub ghost fps_greatest: { fps ≤ 240 },
-    pub ghost duration_known: { IsTrue (duration == 5 || duration == 10) },
-    pub ghost audio_greatest: { audio ≤ 1400 },
-    pub ghost ssrc_least: { 1 ≤ ssrc },
-    pub ghost ssrc_greatest: { ssrc ≤ 9999 },
+    pub ghost packet_least: { least_packet ≤ packet },
+    pub ghost packet_greatest: { packet ≤ most_packet },
+    pub ghost percentage_greatest: { percentage ≤ most_percentage },
+    pub ghost minimum_greatest: { minimum ≤ most_minimum },
+    pub ghost fps_least: { least_fps ≤ fps },
+    pub ghost fps_greatest: { fps ≤ most_fps },
+    pub ghost duration_known: { IsTrue (duration == short_duration || duration == long_duration) },
+    pub ghost audio_greatest: { audio ≤ most_audio },
+    pub ghost ssrc_least: { least_ssrc ≤ ssrc },
+    pub ghost ssrc_greatest: { ssrc ≤ most_ssrc },
 }
 
 impl Settings {
@@ -75,7 +51,7 @@ impl Settings {
         audio: u16,
         ssrc: u32,
     ) -> Option<Settings>
-        ensures within { IsSome result ↔ IsWithinLimits packet percentage minimum fps duration audio ssrc }
+        ensures within { IsSome result ↔ AreNumbersOfSettings packet percentage minimum fps duration audio ssrc }
         ensures packet { IfSome result (λ s. s.packet ≡ packet) }
         ensures percentage { IfSome result (λ s. s.percentage ≡ percentage) }
         ensures minimum { IfSome result (λ s. s.minimum ≡ minimum) }
@@ -96,7 +72,7 @@ impl Settings {
         if duration != DURATION_SHORT && duration != DURATION_LONG {
             return None;
         }
-        if audio > AUDIO_GREATEST {
+        if audio > MOST_AUDIO {
             return None;
         }
         if !(SSRC_LEAST..=SSRC_GREATEST).contains(&ssrc) {

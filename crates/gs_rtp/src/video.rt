@@ -17,6 +17,7 @@ ghost use Rattle.gs_rtp.specs.Video.{
   video_header,
 };
 
+use crate::limits::{CODE_SHARDS_GREATEST, FRAME_GREATEST, LAST_BLOCK_GREATEST, SHARDS_GREATEST};
 use crate::number::{big_u16, big_u32, little_u32};
 use byteorder::{BigEndian, ByteOrder, LittleEndian};
 
@@ -76,18 +77,6 @@ const PERCENTAGE_MASK: u32 = 0xFF;
 const VERSION_BIT: u32 = 6;
 
 const EXTENDED_BIT: u32 = 4;
-
-/// The greatest frame of a session.
-pub const FRAME_GREATEST: u32 = 1_048_576;
-
-/// The greatest number of a frame's last block, from 0.
-pub const LAST_BLOCK_GREATEST: u8 = 3;
-
-/// The most data shards of a block.
-pub const SHARDS_GREATEST: u16 = 1_023;
-
-/// The most shards of a block with parity.
-pub const CODE_SHARDS_GREATEST: u32 = 255;
 
 /// The fields of a video datagram's header.
 #[derive(Clone, Copy, Debug, PartialEq, Eq)]

@@ -1,7 +1,7 @@
 -- What a client is handed of a history's datagrams.
 use Rattle.std.specs.Prelude.{ℕ, ◌≡◌, ◌+◌, ◌<◌, ◌≤◌, true, List, ◌++◌, Some}
 use Rattle.std.specs.List.{All, Contains, slice_get}
-use Rattle.gs_rtp.specs.Stream.{StreamSettings, AreWithinLimits}
+use Rattle.gs_rtp.specs.Stream.{StreamSettings, AreSettingsWithinLimits}
 use Rattle.gs_tape.specs.Tick.{Tick}
 use Rattle.gs_tape.specs.Limits.{HoldsBytes, AreWithinLimits as AreTicksWithinLimits}
 use Rattle.gs_refs.specs.declared.entry.Entry.{Entry}
@@ -21,7 +21,7 @@ use Rattle.gs_stream.specs.Paired.{AreOfHistory}
 
 -- a history that a host may have over the ticks of a capture file
 pub record IsHostHistory (settings : StreamSettings) (ticks : List Tick) (h : List Entry) : Type 0 where
-  pub limits : AreWithinLimits settings
+  pub limits : AreSettingsWithinLimits settings
   pub capture : AreTicksWithinLimits settings.audio 1 0 ticks
   pub bytes : All HoldsBytes ticks
   pub legal : IsLegal ticks h

@@ -104,9 +104,11 @@ unit_gives size number held rest are =
     let U : List ℕ × List ℕ → Type 0 = IsUnit held rest in
     gives_then (IsNumber 4 rest) U (number_at size 4 rest) _ (number_gives size 4 rest are) (λ n read.
     gives_then (λ fits. (n.0 ≤ most_unit) × (fits ≡ n.1)) U (unless (nat_lt most_unit n.0) (UnitTooLarge number) (Ok n.1)) _
-    (gives_unless (λ fits. (n.0 ≤ most_unit) × (fits ≡ n.1)) (nat_lt most_unit n.0) (UnitTooLarge number) (Ok n.1) (λ e. (ltb-false most_unit n.0 e, refl))) (λ fits is.
+    (gives_unless (λ fits. (n.0 ≤ most_unit) × (fits ≡ n.1)) (nat_lt most_unit n.0) (UnitTooLarge number) (Ok n.1) (λ e. (ltb-false most_unit n.0 e, refl)))
+    (λ fits is.
     gives_then (λ room. (held + n.0 ≤ most_bytes) × (room ≡ n.1)) U (unless (nat_lt most_bytes (held + n.0)) (Full number) (Ok fits)) _
-    (gives_unless (λ room. (held + n.0 ≤ most_bytes) × (room ≡ n.1)) (nat_lt most_bytes (held + n.0)) (Full number) (Ok fits) (λ e. (ltb-false most_bytes (held + n.0) e, is.1))) (λ room has.
+    (gives_unless (λ room. (held + n.0 ≤ most_bytes) × (room ≡ n.1)) (nat_lt most_bytes (held + n.0)) (Full number) (Ok fits)
+    (λ e. (ltb-false most_bytes (held + n.0) e, is.1))) (λ room has.
     gives_weaker (IsPart n.0 room) U (bytes_at size n.0 room) (bytes_give size n.0 room (subst AreBytes (sym has.1) read.bytes)) (λ x part. record {
       most = omega (arith, part.long, is.0);
       room = omega (arith, part.long, has.0);
@@ -190,7 +192,8 @@ sounds_give zero size each rest are = record {
 }
 sounds_give (suc n) size each rest are =
     gives_then (IsPart each rest) (AreSounds (suc n) each rest) (bytes_at size each rest) _ (bytes_give size each rest are) (λ u part.
-    gives_then (AreSounds n each u.1) (AreSounds (suc n) each rest) (audio_at n size each u.1) _ (sounds_give n size each u.1 part.bytes) (λ others more. record {
+    gives_then (AreSounds n each u.1) (AreSounds (suc n) each rest) (audio_at n size each u.1) _ (sounds_give n size each u.1 part.bytes)
+    (λ others more. record {
       count = ap suc more.count;
       whole = All-cons (λ v. length v ≡ each) u.0 others.0 part.long more.whole;
       hold = All-cons HoldBytes u.0 others.0 part.holds more.hold;

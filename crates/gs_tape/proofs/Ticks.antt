@@ -79,7 +79,8 @@ is_tick audio before rest time sounds count later few counted idr deltas units h
     let heard_many : length units.0 * audio ≡ sounds.0 * audio = ap (λ (n : ℕ). n * audio) h.units_read.count in
     let behind_counts : List ℕ = unit idr.0 ++ (flat_map delta deltas.0 ++ (concat units.0 ++ units.1)) in
     let units_spelled : count.1 ≡ behind_counts =
-    sym h.counted_is ∙ h.idr_read.spelled ∙ ap (λ (l : List ℕ). unit idr.0 ++ l) (h.deltas_read.spelled ∙ ap (λ (l : List ℕ). flat_map delta deltas.0 ++ l) h.units_read.spelled) in
+    sym h.counted_is ∙ h.idr_read.spelled
+    ∙ ap (λ (l : List ℕ). unit idr.0 ++ l) (h.deltas_read.spelled ∙ ap (λ (l : List ℕ). flat_map delta deltas.0 ++ l) h.units_read.spelled) in
     let counts_spelled : time.1 ≡ sounds.0 ∷ count.0 ∷ count.1 =
     sym h.later_is ∙ h.sounds_read.spelled ∙ byte_spells sounds.0 sounds.1 h.sounds_read.fits
     ∙ ap (λ (l : List ℕ). sounds.0 ∷ l) (sym h.few_is ∙ h.count_read.spelled ∙ byte_spells count.0 count.1 h.count_read.fits) in
@@ -118,7 +119,8 @@ tick_gives size audio before rest most are =
     gives_then (IsNumber 1 later) T (number_at size 1 later) _ (number_gives size 1 later (subst AreBytes (sym hl.1) ht.bytes)) (λ sounds hs.
     gives_then (λ left. (sounds.0 ≤ most_count) × (audio ≡ 0 → sounds.0 ≡ 0) × (left ≡ sounds.1)) T
     (unless (nat_lt most_count sounds.0 || (not (sounds.0 == 0) && audio == 0)) (Malformed 4 (size - length later)) (Ok sounds.1)) _
-    (gives_unless (λ left. (sounds.0 ≤ most_count) × (audio ≡ 0 → sounds.0 ≡ 0) × (left ≡ sounds.1)) (nat_lt most_count sounds.0 || (not (sounds.0 == 0) && audio == 0))
+    (gives_unless (λ left. (sounds.0 ≤ most_count) × (audio ≡ 0 → sounds.0 ≡ 0) × (left ≡ sounds.1))
+    (nat_lt most_count sounds.0 || (not (sounds.0 == 0) && audio == 0))
     (Malformed 4 (size - length later)) (Ok sounds.1)
     (λ e. let parts = or_parts (nat_lt most_count sounds.0) (not (sounds.0 == 0) && audio == 0) e in
     (ltb-false most_count sounds.0 parts.0, silent_is sounds.0 audio parts.1, refl))) (λ few hf.
@@ -133,7 +135,8 @@ tick_gives size audio before rest most are =
     gives_then (AreDeltas count.0 0 before.number (before.held + sounds.0 * audio + length idr.0) idr.1) T
     (deltas_at count.0 size before.number 0 (before.held + sounds.0 * audio + length idr.0) idr.1) _
     (deltas_give count.0 size before.number 0 (before.held + sounds.0 * audio + length idr.0) idr.1 hi.room hi.bytes) (λ deltas hd.
-    gives_then (AreSounds sounds.0 audio deltas.1.1) T (audio_at sounds.0 size audio deltas.1.1) _ (sounds_give sounds.0 size audio deltas.1.1 hd.bytes) (λ units hu.
+    gives_then (AreSounds sounds.0 audio deltas.1.1) T (audio_at sounds.0 size audio deltas.1.1) _ (sounds_give sounds.0 size audio deltas.1.1 hd.bytes)
+    (λ units hu.
     is_tick audio before rest time sounds count later room counted idr deltas units (record {
       number_most = most;
       time_read = ht;
@@ -224,7 +227,8 @@ ticks_are (suc steps) size audio before (tag ∷ rest) room are =
     chosen_is audio before (tag ∷ rest) (tag == 0x45) (length rest == 0) (tag == 0x54) (nat_lt most_ticks before.number)
     (Malformed 7 (size - length rest)) (Full before.number) (Malformed 2 (size - suc (length rest))) next room
     (λ is_end empty. ap (λ (b : ℕ). b ∷ rest) (eqb-true tag 0x45 is_end) ∙ ap (λ (l : List ℕ). 0x45 ∷ l) (empty_is rest empty))
-    (λ is_tick few. subst Ticks (sym (eqb-true tag 0x54 is_tick)) (with_tick_is audio before rest (tick_at size audio before rest) (λ t held left. ticks_at steps size audio (after before t held) left)
+    (λ is_tick few. subst Ticks (sym (eqb-true tag 0x54 is_tick))
+    (with_tick_is audio before rest (tick_at size audio before rest) (λ t held left. ticks_at steps size audio (after before t held) left)
     (tick_gives size audio before rest (ltb-false most_ticks before.number few) behind)
     (λ t held left fits bs. ticks_are steps size audio (after before t held) left fits bs)))
 
@@ -256,13 +260,17 @@ pub head_gives : (size : ℕ) (bytes : List ℕ) → AreBytes bytes → Gives (I
 unfolding head_at
 head_gives size bytes are =
     let H = IsHead bytes in
-    gives_then (λ left. (bytes ≡ codes "GSTAPE01" ++ left) × AreBytes left) H (text_at size (codes "GSTAPE01") bytes) _ (text_gives size (codes "GSTAPE01") bytes are) (λ rest hr.
+    gives_then (λ left. (bytes ≡ codes "GSTAPE01" ++ left) × AreBytes left) H (text_at size (codes "GSTAPE01") bytes) _
+    (text_gives size (codes "GSTAPE01") bytes are) (λ rest hr.
     gives_then (IsNumber 2 rest) H (number_at size 2 rest) _ (number_gives size 2 rest hr.1) (λ audio ha.
     gives_then (λ left. (audio.0 ≤ most_audio) × (left ≡ audio.1)) H (unless (nat_lt most_audio audio.0) (AudioLength audio.0) (Ok audio.1)) _
-    (gives_unless (λ left. (audio.0 ≤ most_audio) × (left ≡ audio.1)) (nat_lt most_audio audio.0) (AudioLength audio.0) (Ok audio.1) (λ e. (ltb-false most_audio audio.0 e, refl))) (λ within hw.
+    (gives_unless (λ left. (audio.0 ≤ most_audio) × (left ≡ audio.1)) (nat_lt most_audio audio.0) (AudioLength audio.0) (Ok audio.1)
+    (λ e. (ltb-false most_audio audio.0 e, refl))) (λ within hw.
     gives_then (IsNumber 1 within) H (number_at size 1 within) _ (number_gives size 1 within (subst AreBytes (sym hw.1) ha.bytes)) (λ duration hd.
-    gives_then (λ left. ((duration.0 ≡ 5) ⊎ (duration.0 ≡ 10)) × (left ≡ duration.1)) H (unless (not (duration.0 == 5 || duration.0 == 10)) (Malformed 1 (size - length within)) (Ok duration.1)) _
-    (gives_unless (λ left. ((duration.0 ≡ 5) ⊎ (duration.0 ≡ 10)) × (left ≡ duration.1)) (not (duration.0 == 5 || duration.0 == 10)) (Malformed 1 (size - length within)) (Ok duration.1)
+    gives_then (λ left. ((duration.0 ≡ 5) ⊎ (duration.0 ≡ 10)) × (left ≡ duration.1)) H
+    (unless (not (duration.0 == 5 || duration.0 == 10)) (Malformed 1 (size - length within)) (Ok duration.1)) _
+    (gives_unless (λ left. ((duration.0 ≡ 5) ⊎ (duration.0 ≡ 10)) × (left ≡ duration.1)) (not (duration.0 == 5 || duration.0 == 10))
+    (Malformed 1 (size - length within)) (Ok duration.1)
     (λ e. (known_is duration.0 e, refl))) (λ known hk.
     gives_then (IsNumber 1 known) H (number_at size 1 known) _ (number_gives size 1 known (subst AreBytes (sym hk.1) hd.bytes)) (λ last hl.
     gives_unless H (not (last.0 == 0)) (Malformed 1 (size - length known)) (Ok (record { audio = audio.0; duration = duration.0 }, last.1))

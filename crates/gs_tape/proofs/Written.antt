@@ -47,7 +47,8 @@ unit_read size number held bytes rest most room =
     (unless_ok (nat_lt most_bytes (held + length bytes)) (Full number) (Ok (bytes ++ rest)) (le-ltb most_bytes (held + length bytes) room))
     (bytes_read size (length bytes) bytes rest refl)))
 
-pub deltas_read : (size number above held : ℕ) (ds : List Delta) (rest : List ℕ) → number ≤ most_ticks → AreDeltasBetween above number ds → held + delta_bytes ds ≤ most_bytes
+pub deltas_read : (size number above held : ℕ) (ds : List Delta) (rest : List ℕ) → number ≤ most_ticks → AreDeltasBetween above number ds
+    → held + delta_bytes ds ≤ most_bytes
     → deltas_at (length ds) size number above held (flat_map delta ds ++ rest) ≡ Ok (ds, (held + delta_bytes ds, rest))
 unfolding deltas_at
 deltas_read size number above held [] rest most between room =
@@ -61,8 +62,11 @@ deltas_read size number above held (d ∷ ds) rest most between room =
     ap (deltas_at (suc (length ds)) size number above held) parts
     ∙ then_ok (number_at size 4 (little_bytes 4 d.named ++ (unit d.unit ++ behind))) (d.named, unit d.unit ++ behind) _ _
     (number_read size 4 d.named (unit d.unit ++ behind) (omega arith))
-    (then_ok (unless (nat_le d.named above || nat_le number d.named) (Malformed 5 (size - length (little_bytes 4 d.named ++ (unit d.unit ++ behind)))) (Ok (unit d.unit ++ behind))) (unit d.unit ++ behind) _ _
-    (unless_ok (nat_le d.named above || nat_le number d.named) (Malformed 5 (size - length (little_bytes 4 d.named ++ (unit d.unit ++ behind)))) (Ok (unit d.unit ++ behind))
+    (then_ok
+    (unless (nat_le d.named above || nat_le number d.named) (Malformed 5 (size - length (little_bytes 4 d.named ++ (unit d.unit ++ behind))))
+    (Ok (unit d.unit ++ behind))) (unit d.unit ++ behind) _ _
+    (unless_ok (nat_le d.named above || nat_le number d.named) (Malformed 5 (size - length (little_bytes 4 d.named ++ (unit d.unit ++ behind))))
+    (Ok (unit d.unit ++ behind))
     (or_from (nat_le d.named above) (nat_le number d.named) (lt-leb d.named above rises) (lt-leb number d.named below)))
     (then_ok (unit_at size number held (unit d.unit ++ behind)) (d.unit, behind) _ _
     (unit_read size number held d.unit behind between.2 (omega (arith, sums)))

@@ -42,24 +42,38 @@ tick_read size audio before t rest is room =
     let few : sounds ≤ most_count = is.audio_most in
     let counted : count ≤ most_count = is.deltas_most in
     let sums : before.held + sounds * audio + length t.idr + delta_bytes t.deltas ≡ before.held + unit_bytes t = omega (arith, heard) in
-    then_ok (number_at size 4 (tick_rest t rest)) (t.time, sounds ∷ count ∷ behind_counts) _ _ (number_read size 4 t.time (sounds ∷ count ∷ behind_counts) is.time_fits)
-    (then_ok (unless (nat_lt t.time before.time) (Malformed 3 (size - length (tick_rest t rest))) (Ok (sounds ∷ count ∷ behind_counts))) (sounds ∷ count ∷ behind_counts) _ _
-    (unless_ok (nat_lt t.time before.time) (Malformed 3 (size - length (tick_rest t rest))) (Ok (sounds ∷ count ∷ behind_counts)) (le-ltb t.time before.time is.not_earlier))
-    (then_ok (number_at size 1 (sounds ∷ count ∷ behind_counts)) (sounds, count ∷ behind_counts) _ _ (byte_read size sounds (count ∷ behind_counts) (omega arith))
-    (then_ok (unless (nat_lt most_count sounds || (not (sounds == 0) && audio == 0)) (Malformed 4 (size - length (sounds ∷ count ∷ behind_counts))) (Ok (count ∷ behind_counts))) (count ∷ behind_counts) _ _
-    (unless_ok (nat_lt most_count sounds || (not (sounds == 0) && audio == 0)) (Malformed 4 (size - length (sounds ∷ count ∷ behind_counts))) (Ok (count ∷ behind_counts))
+    then_ok (number_at size 4 (tick_rest t rest)) (t.time, sounds ∷ count ∷ behind_counts) _ _
+    (number_read size 4 t.time (sounds ∷ count ∷ behind_counts) is.time_fits)
+    (then_ok (unless (nat_lt t.time before.time) (Malformed 3 (size - length (tick_rest t rest))) (Ok (sounds ∷ count ∷ behind_counts)))
+    (sounds ∷ count ∷ behind_counts) _ _
+    (unless_ok (nat_lt t.time before.time) (Malformed 3 (size - length (tick_rest t rest))) (Ok (sounds ∷ count ∷ behind_counts))
+    (le-ltb t.time before.time is.not_earlier))
+    (then_ok (number_at size 1 (sounds ∷ count ∷ behind_counts)) (sounds, count ∷ behind_counts) _ _
+    (byte_read size sounds (count ∷ behind_counts) (omega arith))
+    (then_ok
+    (unless (nat_lt most_count sounds || (not (sounds == 0) && audio == 0)) (Malformed 4 (size - length (sounds ∷ count ∷ behind_counts)))
+    (Ok (count ∷ behind_counts))) (count ∷ behind_counts) _ _
+    (unless_ok (nat_lt most_count sounds || (not (sounds == 0) && audio == 0)) (Malformed 4 (size - length (sounds ∷ count ∷ behind_counts)))
+    (Ok (count ∷ behind_counts))
     (or_from (nat_lt most_count sounds) (not (sounds == 0) && audio == 0) (le-ltb most_count sounds few) (no_sound sounds audio is.silent)))
     (then_ok (unless (nat_lt most_bytes (before.held + sounds * audio)) (Full before.number) (Ok (count ∷ behind_counts))) (count ∷ behind_counts) _ _
-    (unless_ok (nat_lt most_bytes (before.held + sounds * audio)) (Full before.number) (Ok (count ∷ behind_counts)) (le-ltb most_bytes (before.held + sounds * audio) (omega (arith, sums, room))))
+    (unless_ok (nat_lt most_bytes (before.held + sounds * audio)) (Full before.number) (Ok (count ∷ behind_counts))
+    (le-ltb most_bytes (before.held + sounds * audio) (omega (arith, sums, room))))
     (then_ok (number_at size 1 (count ∷ behind_counts)) (count, behind_counts) _ _ (byte_read size count behind_counts (omega arith))
     (then_ok (unless (nat_lt most_count count) (Malformed 4 (size - length (count ∷ behind_counts))) (Ok behind_counts)) behind_counts _ _
     (unless_ok (nat_lt most_count count) (Malformed 4 (size - length (count ∷ behind_counts))) (Ok behind_counts) (le-ltb most_count count counted))
     (then_ok (unit_at size before.number (before.held + sounds * audio) behind_counts) (t.idr, behind_idr) _ _
     (unit_read size before.number (before.held + sounds * audio) t.idr behind_idr is.idr_most (omega (arith, sums, room)))
-    (then_ok (deltas_at count size before.number 0 (before.held + sounds * audio + length t.idr) behind_idr) (t.deltas, (before.held + sounds * audio + length t.idr + delta_bytes t.deltas, behind_deltas)) _ _
-    (deltas_read size before.number 0 (before.held + sounds * audio + length t.idr) t.deltas behind_deltas is.number_most is.deltas_between (omega (arith, sums, room)))
+    (then_ok (deltas_at count size before.number 0 (before.held + sounds * audio + length t.idr) behind_idr)
+    (t.deltas, (before.held + sounds * audio + length t.idr + delta_bytes t.deltas, behind_deltas)) _ _
+    (deltas_read size before.number 0 (before.held + sounds * audio + length t.idr) t.deltas behind_deltas is.number_most is.deltas_between
+    (omega (arith, sums, room)))
     (then_ok (audio_at sounds size audio behind_deltas) (t.audio, rest) _ _ (sounds_read size audio t.audio rest all)
-    (ap (λ (n : ℕ). Ok (record { number = n; time = t.time; idr = t.idr; deltas = t.deltas; audio = t.audio }, (before.held + sounds * audio + length t.idr + delta_bytes t.deltas, rest))) (sym is.number_is)
+    (ap
+    (λ (n : ℕ). Ok (
+      record { number = n; time = t.time; idr = t.idr; deltas = t.deltas; audio = t.audio },
+      (before.held + sounds * audio + length t.idr + delta_bytes t.deltas, rest),
+    )) (sym is.number_is)
     ∙ ap (λ (n : ℕ). Ok (t, (n, rest))) sums))))))))))
 
 -- ---- all ticks
@@ -110,7 +124,8 @@ unfolding head_at
 head_read size audio duration rest most known =
     let fits = duration_fits duration known in
     let behind_audio : List ℕ = duration ∷ 0 ∷ rest in
-    then_ok (text_at size (codes "GSTAPE01") (head audio duration ++ rest)) (little_bytes 2 audio ++ behind_audio) _ _ (magic_read size (little_bytes 2 audio ++ behind_audio))
+    then_ok (text_at size (codes "GSTAPE01") (head audio duration ++ rest)) (little_bytes 2 audio ++ behind_audio) _ _
+    (magic_read size (little_bytes 2 audio ++ behind_audio))
     (then_ok (number_at size 2 (little_bytes 2 audio ++ behind_audio)) (audio, behind_audio) _ _ (number_read size 2 audio behind_audio (omega arith))
     (then_ok (unless (nat_lt most_audio audio) (AudioLength audio) (Ok behind_audio)) behind_audio _ _
     (unless_ok (nat_lt most_audio audio) (AudioLength audio) (Ok behind_audio) (le-ltb most_audio audio most))

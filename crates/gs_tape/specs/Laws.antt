@@ -8,7 +8,8 @@ use Rattle.gs_tape.specs.Reading.{read, ticks_of, first_fault, audio_length, aud
 
 -- the ticks of any bytes are numbered from 1, within the limits
 abbrev pub TicksKeepLimits : Type 0
-TicksKeepLimits = (bytes : List ℕ) → All (λ b. b < 2 ^ 8) bytes → AreWithinLimits (audio_length bytes) 1 0 (ticks_of bytes)
+TicksKeepLimits =
+    (bytes : List ℕ) → All (λ b. b < 2 ^ 8) bytes → AreWithinLimits (audio_length bytes) 1 0 (ticks_of bytes)
 
 abbrev pub AudioLengthKeepsLimit : Type 0
 AudioLengthKeepsLimit = (bytes : List ℕ) → All (λ b. b < 2 ^ 8) bytes → audio_length bytes ≤ most_audio

@@ -1,7 +1,8 @@
 -- The limits of a capture file and of its ticks.
 use Rattle.std.specs.Prelude.{ℕ, ◌≡◌, ◌⊎◌, ◌+◌, ◌^◌, ◌<◌, ◌≤◌, List, [], ◌∷◌, length}
 use Rattle.std.specs.List.{All, sum_by}
-use Rattle.gs_tape.specs.declared.limits.TheConstants.{MOST_TICKS, MOST_BYTES, MOST_UNIT, MOST_AUDIO, MOST_COUNT}
+pub use Rattle.gs_bytes.specs.Limits.{most_unit, most_audio}
+use Rattle.gs_tape.specs.declared.limits.TheConstants.{MOST_TICKS, MOST_BYTES, MOST_COUNT}
 use Rattle.gs_tape.specs.Tick.{Tick, Delta, unit_bytes}
 
 -- ticks of a file
@@ -11,14 +12,6 @@ most_ticks = MOST_TICKS
 -- bytes of all units of a file together
 abbrev pub most_bytes : ℕ
 most_bytes = MOST_BYTES
-
--- bytes of one video unit
-abbrev pub most_unit : ℕ
-most_unit = MOST_UNIT
-
--- bytes of one audio unit
-abbrev pub most_audio : ℕ
-most_audio = MOST_AUDIO
 
 -- deltas of one tick, and audio units of one tick
 abbrev pub most_count : ℕ
@@ -46,7 +39,8 @@ pub record IsWithinLimits (audio number time : ℕ) (t : Tick) : Type 0 where
 -- ticks numbered on from a number, whose times never fall
 abbrev pub AreWithinLimits : ℕ → ℕ → ℕ → List Tick → Type 0
 AreWithinLimits audio number time [] = Unit {0}
-AreWithinLimits audio number time (t ∷ ts) = IsWithinLimits audio number time t × AreWithinLimits audio (number + 1) t.time ts
+AreWithinLimits audio number time (t ∷ ts) =
+    IsWithinLimits audio number time t × AreWithinLimits audio (number + 1) t.time ts
 
 -- the k-th tick has number k, and keeps the limits
 pub record IsTickWithinLimits (audio k : ℕ) (t : Tick) : Type 0 where

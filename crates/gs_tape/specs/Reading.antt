@@ -50,7 +50,8 @@ head_at size bytes = do
   (duration, behind_duration) ← number_at size 1 known
   timed ← unless (not (duration == 5 || duration == 10)) (Malformed 1 (size - length known)) (Ok behind_duration)
   (last, behind) ← number_at size 1 timed
-  unless (not (last == 0)) (Malformed 1 (size - length timed)) (Ok (record { audio = audio; duration = duration }, behind))
+  unless (not (last == 0)) (Malformed 1 (size - length timed))
+      (Ok (record { audio = audio; duration = duration }, behind))
 
 -- A unit's length, and then its bytes. `held` is the sum of all units of the file so far.
 unfoldable pub unit_at : ℕ → ℕ → ℕ → List ℕ → Result (List ℕ × List ℕ) Fault
@@ -91,12 +92,14 @@ tick_at size audio before rest = do
   (time, behind_time) ← number_at size 4 rest
   timed ← unless (nat_lt time before.time) (Malformed 3 (size - length rest)) (Ok behind_time)
   (sounds, behind_sounds) ← number_at size 1 timed
-  few ← unless (nat_lt most_count sounds || (not (sounds == 0) && audio == 0)) (Malformed 4 (size - length timed)) (Ok behind_sounds)
+  few ← unless (nat_lt most_count sounds || (not (sounds == 0) && audio == 0)) (Malformed 4 (size - length timed))
+      (Ok behind_sounds)
   room ← unless (nat_lt most_bytes (before.held + sounds * audio)) (Full before.number) (Ok few)
   (count, behind_count) ← number_at size 1 room
   counted ← unless (nat_lt most_count count) (Malformed 4 (size - length room)) (Ok behind_count)
   (idr, behind_idr) ← unit_at size before.number (before.held + sounds * audio) counted
-  (deltas, (held, behind_deltas)) ← deltas_at count size before.number 0 (before.held + sounds * audio + length idr) behind_idr
+  (deltas, (held, behind_deltas)) ← deltas_at count size before.number 0
+      (before.held + sounds * audio + length idr) behind_idr
   (units, behind) ← audio_at sounds size audio behind_deltas
   Ok (record { number = before.number; time = time; idr = idr; deltas = deltas; audio = units }, (held, behind))
 
@@ -122,11 +125,16 @@ ticks_at zero size audio before rest = ends_with (Some (Malformed 6 size))
 ticks_at (suc steps) size audio before [] = ends_with (Some (Malformed 6 size))
 ticks_at (suc steps) size audio before (tag ∷ rest) =
     elim (tag == 0x45) [
-      | true ↦ elim (length rest == 0) [ true ↦ ends_with None | false ↦ ends_with (Some (Malformed 7 (size - length rest))) ]
+      | true ↦ elim (length rest == 0) [
+        | true ↦ ends_with None
+        | false ↦ ends_with (Some (Malformed 7 (size - length rest)))
+      ]
       | false ↦ elim (tag == 0x54) [
         | true ↦ elim (nat_lt most_ticks before.number) [
           | true ↦ ends_with (Some (Full before.number))
-          | false ↦ with_tick (tick_at size audio before rest) (λ t held left. ticks_at steps size audio (record { number = before.number + 1; time = t.time; held = held }) left)
+          | false ↦ with_tick (tick_at size audio before rest)
+              (λ t held left. ticks_at steps size audio
+              (record { number = before.number + 1; time = t.time; held = held }) left)
         ]
         | false ↦ ends_with (Some (Malformed 2 (size - suc (length rest))))
       ]

@@ -10,5 +10,6 @@
 mod laws;
 mod limits;
 
+pub use gs_bytes::{MOST_AUDIO, MOST_UNIT};
 pub use laws::{faultless_bytes_are_files, files_are_read, ticks_keep_limits};
-pub use limits::{MOST_AUDIO, MOST_BYTES, MOST_COUNT, MOST_TICKS, MOST_UNIT};
+pub use limits::{MOST_BYTES, MOST_COUNT, MOST_TICKS};

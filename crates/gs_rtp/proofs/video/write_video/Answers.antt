@@ -16,7 +16,8 @@ returns c =
     let timestamp = IsWritten-field 4 4 out _ _ (big_bytes 4 head.timestamp) c.write_u32.new.buf (omega arith) refl sequence c.write_u32.ensures in
     let ssrc = IsWritten-field 8 4 out _ _ (big_bytes 4 head.ssrc) c.write_u32-2.new.buf (omega arith) refl timestamp c.write_u32-2.ensures in
     let reserved = IsWritten-field 12 4 out _ _ (big_bytes 4 0) c.write_u32-3.new.buf (omega arith) refl ssrc c.write_u32-3.ensures in
-    let stream_index = IsWritten-field 16 4 out _ _ (little_bytes 4 head.stream_index) c.write_u32-4.new.buf (omega arith) refl reserved c.write_u32-4.ensures in
+    let stream_index = IsWritten-field 16 4 out _ _ (little_bytes 4 head.stream_index) c.write_u32-4.new.buf
+    (omega arith) refl reserved c.write_u32-4.ensures in
     let frame = IsWritten-field 20 4 out _ _ (little_bytes 4 head.frame) c.write_u32-5.new.buf (omega arith) refl stream_index c.write_u32-5.ensures in
     let flags = IsWritten-set 24 out _ _ head.flags (omega arith) frame in
     let extra = IsWritten-set 25 out _ _ head.extra (omega arith) flags in

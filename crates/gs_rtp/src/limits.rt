@@ -1,0 +1,43 @@
+// The limits of a stream's settings and of the head of a video datagram.
+
+/// The least packet size, in bytes.
+pub const PACKET_LEAST: u16 = 1_024;
+
+/// The greatest packet size, in bytes.
+pub const PACKET_GREATEST: u16 = 1_440;
+
+/// The greatest percentage of parity.
+pub const PERCENTAGE_GREATEST: u8 = 100;
+
+/// The greatest number of parity shards that each block has at least.
+pub const MINIMUM_GREATEST: u8 = 2;
+
+/// The least number of frames per second.
+pub const FPS_LEAST: u16 = 1;
+
+/// The greatest number of frames per second.
+pub const FPS_GREATEST: u16 = 240;
+
+/// The shorter duration of an audio unit, in milliseconds.
+pub const DURATION_SHORT: u8 = 5;
+
+/// The longer duration of an audio unit, in milliseconds.
+pub const DURATION_LONG: u8 = 10;
+
+/// The least number of a session.
+pub const SSRC_LEAST: u32 = 1;
+
+/// The greatest number of a session.
+pub const SSRC_GREATEST: u32 = 9_999;
+
+/// The greatest index of a frame.
+pub const FRAME_GREATEST: u32 = 1_048_576;
+
+/// The greatest number that a frame's last block can have.
+pub const LAST_BLOCK_GREATEST: u8 = 3;
+
+/// The greatest number of data shards of a block.
+pub const SHARDS_GREATEST: u16 = 1_023;
+
+/// The greatest number of data and parity shards of a block that has parity.
+pub const CODE_SHARDS_GREATEST: u32 = 255;
