@@ -27,7 +27,8 @@ pub old_frame : (s : StreamSettings) (client : Client) (datagram : List ℕ) (ca
     → IsDatagramOf s frame unit datagram → frame ≤ client.greatest → IsPassed s client datagram came
 old_frame s client datagram came frame unit before sent old =
     let P : List ℕ → Type 0 = λ d. IsPassedDatagram s d came in
-    let passed = subst P (sym sent.bytes) (lone_datagram_passed s came sent.count frame sent.time unit before.lone sent.fits sent.frame_least (omega (arith, before.greatest_frame)) sent.frame_greatest) in
+    let passed = subst P (sym sent.bytes) (lone_datagram_passed s came sent.count frame sent.time unit before.lone sent.fits sent.frame_least
+    (omega (arith, before.greatest_frame)) sent.frame_greatest) in
     record {
       stands = record {
         greatest_frame = before.greatest_frame ∙ sym passed.greatest_after;
@@ -44,19 +45,23 @@ length_ranges None = refl
 length_ranges (Some x) = refl
 
 -- a frame above all that came
-pub new_frame : (s : StreamSettings) (old new : Client) (datagram : List ℕ) (came : List (List ℕ)) (frame : ℕ) (lost : Option (ℕ × ℕ)) (unit : List ℕ) → ClientStandsFor s old came
+pub new_frame : (s : StreamSettings) (old new : Client) (datagram : List ℕ) (came : List (List ℕ)) (frame : ℕ) (lost : Option (ℕ × ℕ)) (unit : List ℕ)
+    → ClientStandsFor s old came
     → IsDatagramOf s frame unit datagram → old.greatest < frame → ranges_of lost ≡ range_or_none (old.greatest + 1) (frame - 1)
     → new.greatest ≡ frame → new.handed ≡ old.handed + 1 → new.asks ≡ old.asks + from_bool (is_some lost)
     → IsHanded s new datagram came frame (ranges_of lost) unit
 new_frame s old new datagram came frame lost unit before sent above lost_is greatest one_more asked =
     let P : List ℕ → Type 0 = λ d. IsNewDatagram s d came frame unit in
-    let is_new = subst P (sym sent.bytes) (lone_datagram_handed s came sent.count frame sent.time unit before.lone sent.fits sent.frame_greatest (omega (arith, before.greatest_frame))) in
+    let is_new = subst P (sym sent.bytes) (lone_datagram_handed s came sent.count frame sent.time unit before.lone sent.fits sent.frame_greatest
+    (omega (arith, before.greatest_frame))) in
     let asked_after : narrow_asks s (datagram ∷ came) ≡ narrow_asks s came ++ ranges_of lost =
-    is_new.asked_after ∙ ap (λ (n : ℕ). narrow_asks s came ++ range_or_none (n + 1) (frame - 1)) (sym before.greatest_frame) ∙ ap (λ (l : List Range). narrow_asks s came ++ l) (sym lost_is) in
+    is_new.asked_after ∙ ap (λ (n : ℕ). narrow_asks s came ++ range_or_none (n + 1) (frame - 1)) (sym before.greatest_frame)
+    ∙ ap (λ (l : List Range). narrow_asks s came ++ l) (sym lost_is) in
     record {
       stands = record {
         greatest_frame = greatest ∙ sym is_new.greatest_after;
-        handed_count = one_more ∙ ap (λ (n : ℕ). n + 1) before.handed_count ∙ sym (length_push (narrow_handed s came) (record { frame = frame; kind = 2; unit = unit })) ∙ ap length (sym is_new.handed_after);
+        handed_count = one_more ∙ ap (λ (n : ℕ). n + 1) before.handed_count
+            ∙ sym (length_push (narrow_handed s came) (record { frame = frame; kind = 2; unit = unit })) ∙ ap length (sym is_new.handed_after);
         asks_count = omega (arith, asked, before.asks_count, length_ranges lost, length-append (narrow_asks s came) (ranges_of lost), ap length asked_after);
         lone = is_new.lone_after;
       };
@@ -65,7 +70,8 @@ new_frame s old new datagram came frame lost unit before sent above lost_is grea
     }
 
 -- the same, where the frame and the unit are told as they were read
-pub new_frame_told : (s : StreamSettings) (old new : Client) (datagram : List ℕ) (came : List (List ℕ)) (frame told_frame : ℕ) (lost : Option (ℕ × ℕ)) (unit told_unit : List ℕ)
+pub new_frame_told : (s : StreamSettings) (old new : Client) (datagram : List ℕ) (came : List (List ℕ)) (frame told_frame : ℕ) (lost : Option (ℕ × ℕ))
+    (unit told_unit : List ℕ)
     → ClientStandsFor s old came → IsDatagramOf s frame unit datagram → told_frame ≡ frame → told_unit ≡ unit
     → old.greatest < told_frame → ranges_of lost ≡ range_or_none (old.greatest + 1) (told_frame - 1)
     → new.greatest ≡ told_frame → new.handed ≡ old.handed + 1 → new.asks ≡ old.asks + from_bool (is_some lost)
@@ -73,7 +79,8 @@ pub new_frame_told : (s : StreamSettings) (old new : Client) (datagram : List �
 new_frame_told s old new datagram came frame told_frame lost unit told_unit before sent frame_is unit_is above lost_is greatest one_more asked =
     let F : ℕ → Type 0 = λ f. IsDatagramOf s f told_unit datagram in
     let U : List ℕ → Type 0 = λ u. IsDatagramOf s frame u datagram in (
-      new_frame s old new datagram came told_frame lost told_unit before (subst F (sym frame_is) (subst U (sym unit_is) sent)) above lost_is greatest one_more asked,
+      new_frame s old new datagram came told_frame lost told_unit before (subst F (sym frame_is) (subst U (sym unit_is) sent)) above lost_is greatest one_more
+          asked,
       frame_is,
       unit_is,
     )

@@ -19,7 +19,8 @@ use Rattle.gs_trial.proofs.OneSession.{state_of, is_state_of, kept_state, sent_s
 
 -- ---- a turn of the host
 
-pub turn_kept : (old new : Counts) → old.captured ≤ old.last_tick → new.captured ≡ old.captured → new.last_tick ≡ old.last_tick → new.sent ≡ old.sent → CountsTurn old new
+pub turn_kept : (old new : Counts) → old.captured ≤ old.last_tick → new.captured ≡ old.captured → new.last_tick ≡ old.last_tick → new.sent ≡ old.sent
+    → CountsTurn old new
 turn_kept old new none captured last sent = λ tape state small within before.
     let At : State → Type 0 = λ s. CountsStandFor new tape (after tape s (step.Send 1)) in
     let Stands : State → Type 0 = CountsStandFor new tape in
@@ -36,7 +37,8 @@ turn_kept old new none captured last sent = λ tape state small within before.
       sent = sent ∙ before.sent;
     }))
 
-pub turn_sent : (old new : Counts) → old.last_tick < old.captured → new.captured ≡ old.captured → new.last_tick ≡ old.captured → new.sent ≡ old.sent + 1 → CountsTurn old new
+pub turn_sent : (old new : Counts) → old.last_tick < old.captured → new.captured ≡ old.captured → new.last_tick ≡ old.captured → new.sent ≡ old.sent + 1
+    → CountsTurn old new
 turn_sent old new newer captured last sent = λ tape state small within before.
     let At : State → Type 0 = λ s. CountsStandFor new tape (after tape s (step.Send 1)) in
     let Stands : State → Type 0 = CountsStandFor new tape in
@@ -88,7 +90,8 @@ may_name-is counts tape state k before =
     ∙ ap (λ (l : List Session). may_deliver tape (session_numbered (record { captured = state.captured; sessions = l }) 1) k) (sym before.is_only)
 
 -- what is delivered changes no count
-delivered : (counts : Counts) (tape : Tape) (state : State) (k : ℕ) → CountsStandFor counts tape state → CountsStandFor counts tape (after tape state (step.Video 1 k))
+delivered : (counts : Counts) (tape : Tape) (state : State) (k : ℕ) → CountsStandFor counts tape state
+    → CountsStandFor counts tape (after tape state (step.Video 1 k))
 unfolding after
 delivered counts tape state k before =
     let At : State → Type 0 = λ s. CountsStandFor counts tape (after tape s (step.Video 1 k)) in
@@ -114,7 +117,8 @@ delivered counts tape state k before =
       sent = before.sent;
     }
 
-pub named_one : (counts : Counts) (ticks : ℕ) (s : Step) (session k : ℕ) (taken : Bool) → s ≡ step.Video session k → session ≡ 1 → taken ≡ may_name counts.sent k
+pub named_one : (counts : Counts) (ticks : ℕ) (s : Step) (session k : ℕ) (taken : Bool) → s ≡ step.Video session k → session ≡ 1
+    → taken ≡ may_name counts.sent k
     → CountsStep counts counts ticks s taken
 named_one counts ticks s session k taken is first named =
     let Counted : Step → Type 0 = λ s. CountsStep counts counts ticks s taken in
@@ -174,7 +178,8 @@ next_fails tape state s steps other =
 
 pub one_more_counted : (old new : Counts) (ticks : ℕ) (tape : Tape) (settings : StreamSettings) (steps : List Step) (count : ℕ) (d : Step)
     → AllByRecursion IsSmallTick tape.ticks → length tape.ticks ≡ ticks → count < length steps
-    → CountsStep old new ticks (get_or steps count d) true → IsCountedThrough old tape settings steps count → IsCountedThrough new tape settings steps (count + 1)
+    → CountsStep old new ticks (get_or steps count d) true → IsCountedThrough old tape settings steps count
+    → IsCountedThrough new tape settings steps (count + 1)
 one_more_counted old new ticks tape settings steps count d small long within counted before =
     let s = get_or steps count d in
     let is = counted tape before.state small long before.stands in

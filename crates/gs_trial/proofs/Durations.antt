@@ -26,10 +26,12 @@ head_known size bytes =
     let AnyNumber : ℕ × List ℕ → Type 0 = λ x. Unit {0} in
     gives_then AnyBytes H (text_at size (codes "GSTAPE01") bytes) _ (gives_any (text_at size (codes "GSTAPE01") bytes)) (λ rest hr.
     gives_then AnyNumber H (number_at size 2 rest) _ (gives_any (number_at size 2 rest)) (λ audio ha.
-    gives_then AnyBytes H (unless (nat_lt most_audio audio.0) (AudioLength audio.0) (Ok audio.1)) _ (gives_any (unless (nat_lt most_audio audio.0) (AudioLength audio.0) (Ok audio.1))) (λ within hw.
+    gives_then AnyBytes H (unless (nat_lt most_audio audio.0) (AudioLength audio.0) (Ok audio.1)) _
+    (gives_any (unless (nat_lt most_audio audio.0) (AudioLength audio.0) (Ok audio.1))) (λ within hw.
     gives_then AnyNumber H (number_at size 1 within) _ (gives_any (number_at size 1 within)) (λ duration hd.
     gives_then (λ left. IsKnown duration.0) H (unless (not (duration.0 == 5 || duration.0 == 10)) (Malformed 1 (size - length within)) (Ok duration.1)) _
-    (gives_unless (λ left. IsKnown duration.0) (not (duration.0 == 5 || duration.0 == 10)) (Malformed 1 (size - length within)) (Ok duration.1) (λ e. known_is duration.0 e)) (λ known hk.
+    (gives_unless (λ left. IsKnown duration.0) (not (duration.0 == 5 || duration.0 == 10)) (Malformed 1 (size - length within)) (Ok duration.1)
+    (λ e. known_is duration.0 e)) (λ known hk.
     gives_then AnyNumber H (number_at size 1 known) _ (gives_any (number_at size 1 known)) (λ last hl.
     gives_unless H (not (last.0 == 0)) (Malformed 1 (size - length known)) (Ok (record { audio = audio.0; duration = duration.0 }, last.1)) (λ e. hk)))))))
 
@@ -38,6 +40,7 @@ pub known_duration : (bytes : List ℕ) → first_fault bytes ≡ None → IsKno
 unfolding read
 known_duration bytes whole = known_behind (length bytes) (head_at (length bytes) bytes) (head_known (length bytes) bytes) whole
   where
-    known_behind : (size : ℕ) (h : Result (Head × List ℕ) Fault) → Gives (λ x. IsKnown x.0.duration) h → (read_behind size h).fault ≡ None → IsKnown (duration_of_head h)
+    known_behind : (size : ℕ) (h : Result (Head × List ℕ) Fault) → Gives (λ x. IsKnown x.0.duration) h → (read_behind size h).fault ≡ None
+        → IsKnown (duration_of_head h)
     known_behind size (Err e) known whole = cc
     known_behind size (Ok h) known whole = known

@@ -31,7 +31,8 @@ unfolding lines_of digits
 spelled = refl
 
 smallest : text_of small steps ≡ codes "sent 1 1 2 1 0\nhand 1 1 2 3\nABC\ntotal 1 1 1 0 0 0\nok\n"
-unfolding text_from step_text after read text_at head_at unit_at deltas_at audio_at tick_at ticks_at frame_datagrams frame_shards fec_plan frame_image narrow_handed narrow_handed_through is_narrow_handed received counting complete frame_of narrow_asks narrow_asks_of video_stream digits
+unfolding text_from step_text after read text_at head_at unit_at deltas_at audio_at tick_at ticks_at frame_datagrams frame_shards fec_plan frame_image
+    narrow_handed narrow_handed_through is_narrow_handed received counting complete frame_of narrow_asks narrow_asks_of video_stream digits
 smallest = refl
 
 -- Moving on: two frames of two packets each; once the second frame begins, what is left of the first is old.
@@ -46,7 +47,8 @@ passing = Session 1024 0 0 ∷ Cap ∷ Send 1 ∷ Cap ∷ Send 1 ∷ Video 1 1 �
 
 moved_on : text_of two passing ≡
     codes "sent 1 1 2 1 0\nsent 1 2 2 2 0\nask 1 1 1\nhand 1 2 2 1500\n" ++ replicate 1500 66 ++ codes "\ntotal 1 2 1 1 0 0\nok\n"
-unfolding text_from step_text after read text_at head_at unit_at deltas_at audio_at tick_at ticks_at frame_datagrams frame_shards fec_plan frame_image narrow_handed narrow_handed_through is_narrow_handed received counting complete frame_of narrow_asks narrow_asks_of video_stream digits
+unfolding text_from step_text after read text_at head_at unit_at deltas_at audio_at tick_at ticks_at frame_datagrams frame_shards fec_plan frame_image
+    narrow_handed narrow_handed_through is_narrow_handed received counting complete frame_of narrow_asks narrow_asks_of video_stream digits
 moved_on = refl
 
 -- an empty capture file and an empty schedule
@@ -57,14 +59,22 @@ nothing = refl
 -- an empty line and a comment among the steps
 commented : IsSchedule (codes "# one tick\nsession 1024 0 0\n\ncap") (Session 1024 0 0 ∷ Cap ∷ [])
 unfolding lines_of digits
-commented = record { lines = refl; short = (omega arith, (omega arith, (omega arith, (omega arith, tt)))); numbers = ((omega arith, omega arith, omega arith), (tt, tt)) }
+commented = record {
+  lines = refl;
+  short = (omega arith, (omega arith, (omega arith, (omega arith, tt))));
+  numbers = ((omega arith, omega arith, omega arith), (tt, tt));
+}
 
 -- A re-entry: frame 2 was lost and the host was told, so frame 5 goes out against frame 1, and is handed.
 abbrev tick : ℕ → List ℕ → Tick
 tick n against = record { number = n; time = 0; idr = replicate 5 n; deltas = map (λ k. record { named = k; unit = codes "ABCD" }) against; audio = [] }
 
 abbrev capture : Tape
-capture = record { ticks = tick 1 [] ∷ tick 2 (1 ∷ []) ∷ tick 3 (1 ∷ 2 ∷ []) ∷ tick 4 (1 ∷ 2 ∷ 3 ∷ []) ∷ tick 5 (1 ∷ 2 ∷ 3 ∷ 4 ∷ []) ∷ []; audio = 0; duration = 5 }
+capture = record {
+  ticks = tick 1 [] ∷ tick 2 (1 ∷ []) ∷ tick 3 (1 ∷ 2 ∷ []) ∷ tick 4 (1 ∷ 2 ∷ 3 ∷ []) ∷ tick 5 (1 ∷ 2 ∷ 3 ∷ 4 ∷ []) ∷ [];
+  audio = 0;
+  duration = 5;
+}
 
 silent : StreamSettings
 silent = record { packet = 1024; percentage = 0; minimum = 0; fps = 60; duration = 5; audio = 0; ssrc = 1 }
@@ -83,7 +93,8 @@ unfolding step_text digits
 re_entry_sent = refl
 
 re_entry_handed : step_text capture (after capture (behind_four (Invalid 2 2 ∷ [])) (Send 1)) (Video 1 5) ≡ codes "hand 1 5 5 4\nABCD\n"
-unfolding silent step_text after frame_datagrams frame_shards fec_plan frame_image narrow_handed narrow_handed_through is_narrow_handed received counting complete frame_of narrow_asks narrow_asks_of video_stream digits
+unfolding silent step_text after frame_datagrams frame_shards fec_plan frame_image narrow_handed narrow_handed_through is_narrow_handed received counting
+    complete frame_of narrow_asks narrow_asks_of video_stream digits
 re_entry_handed = refl
 
 -- a host that was told a bad range sends nothing more

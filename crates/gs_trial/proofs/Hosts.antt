@@ -64,7 +64,8 @@ are_lone settings ticks (IdrAsked ∷ h) all = absurd all.0
 are_lone settings ticks (Ended first last ∷ h) all = absurd all.0
 
 -- a host that sent nothing
-pub nothing_sent : (ticks : List Tick) (settings : StreamSettings) (host : Host) → numbers_of host.settings ≡ settings → host.datagrams.items ≡ [] → vec_len host.datagrams ≡ 0
+pub nothing_sent : (ticks : List Tick) (settings : StreamSettings) (host : Host) → numbers_of host.settings ≡ settings → host.datagrams.items ≡ []
+    → vec_len host.datagrams ≡ 0
     → host.last_tick ≡ 0 → HostStandsFor ticks settings host []
 unfolding video_stream
 nothing_sent ticks settings host numbers none no_frames last = record {
@@ -83,14 +84,19 @@ pub sent_more : (ticks : List Tick) (settings : StreamSettings) (old new : Host)
     → vec_len new.datagrams ≡ vec_len old.datagrams + 1 → new.last_tick ≡ number
     → HostStandsFor ticks settings new (Sent number 2 0 ∷ h)
 sent_more ticks settings old new number tick h datagram before bare there small is same more count last =
-    let lone : IsLoneTick settings ticks number = record { tick = tick_seen number tick; there = there; fits = fits_one_packet settings tick.idr bare.limits bare.percentage small } in
+    let lone : IsLoneTick settings ticks number = record {
+      tick = tick_seen number tick;
+      there = there;
+      fits = fits_one_packet settings tick.idr bare.limits bare.percentage small;
+    } in
     let stream = stream-sent settings ticks h number 2 0 refl lone (lone_stream settings ticks h (are_lone settings ticks h before.idr)).count in
     let at : datagram ≡ lone_datagram settings (frames h) (frames h + 1) (time_of (tick_numbered ticks number)) tick.idr =
     is ∙ ap (λ (n : ℕ). lone_datagram settings n (n + 1) tick.time tick.idr) before.count
     ∙ ap (λ (t : Option Tick). lone_datagram settings (frames h) (frames h + 1) (time_of t) tick.idr) (sym there) in
     record {
       numbers = same ∙ before.numbers;
-      datagrams = more ∙ ap (λ (l : List (List ℕ)). l ++ datagram ∷ []) before.datagrams ∙ ap (λ (d : List ℕ). video_stream settings ticks h ++ d ∷ []) at ∙ sym stream;
+      datagrams = more ∙ ap (λ (l : List (List ℕ)). l ++ datagram ∷ []) before.datagrams ∙ ap (λ (d : List ℕ). video_stream settings ticks h ++ d ∷ []) at
+          ∙ sym stream;
       count = count ∙ ap (λ (n : ℕ). n + 1) before.count;
       last = last ∙ sym (last_tick-sent h number 2 0);
       idr = ((refl, refl, lone), before.idr);
@@ -104,12 +110,15 @@ parts_written header front unit zeros out image mid n k header_long front_long n
     let behind : drop 32 out ≡ drop 32 zeros = ap (drop 32) out_is ∙ drop_at header (drop 32 zeros) 32 header_long in
     let fits : length (drop 32 out) ≤ k = omega (arith, length-drop 32 out) in
     let whole : take k (drop 32 out) ≡ drop 32 zeros = take_all k (drop 32 out) fits ∙ behind in
-    let image_then : image ≡ front ++ drop 40 zeros = image_is ∙ ap (λ (l : List ℕ). front ++ drop 8 l) whole ∙ ap (λ (l : List ℕ). front ++ l) (drop-drop 8 32 zeros) in
+    let image_then : image ≡ front ++ drop 40 zeros = image_is ∙ ap (λ (l : List ℕ). front ++ drop 8 l) whole
+    ∙ ap (λ (l : List ℕ). front ++ l) (drop-drop 8 32 zeros) in
     let image_front : take 8 image ≡ front = ap (take 8) image_then ∙ take_at front (drop 40 zeros) 8 front_long in
     let image_rest : drop n (drop 8 image) ≡ drop (40 + length unit) zeros =
-    ap (λ (l : List ℕ). drop n (drop 8 l)) image_then ∙ ap (drop n) (drop_at front (drop 40 zeros) 8 front_long) ∙ drop-drop n 40 zeros ∙ ap (λ (m : ℕ). drop (40 + m) zeros) n_is in
+    ap (λ (l : List ℕ). drop n (drop 8 l)) image_then ∙ ap (drop n) (drop_at front (drop 40 zeros) 8 front_long) ∙ drop-drop n 40 zeros
+    ∙ ap (λ (m : ℕ). drop (40 + m) zeros) n_is in
     let part : put_mid 8 n image mid ≡ front ++ (unit ++ drop (40 + length unit) zeros) =
-    ap (λ (l : List ℕ). l ++ (mid ++ drop n (drop 8 image))) image_front ∙ ap (λ (l : List ℕ). front ++ (l ++ drop n (drop 8 image))) mid_is ∙ ap (λ (l : List ℕ). front ++ (unit ++ l)) image_rest in
+    ap (λ (l : List ℕ). l ++ (mid ++ drop n (drop 8 image))) image_front ∙ ap (λ (l : List ℕ). front ++ (l ++ drop n (drop 8 image))) mid_is
+    ∙ ap (λ (l : List ℕ). front ++ (unit ++ l)) image_rest in
     let out_front : take 32 out ≡ header = ap (take 32) out_is ∙ take_at header (drop 32 zeros) 32 header_long in
     let out_rest : drop k (drop 32 out) ≡ [] = drop_all k (drop 32 out) fits in
     ap (λ (l : List ℕ). l ++ (put_mid 8 n image mid ++ drop k (drop 32 out))) out_front
@@ -119,7 +128,8 @@ parts_written header front unit zeros out image mid n k header_long front_long n
 
 -- the datagram of a head and a unit, by what they are
 pub sent_bytes : (numbers settings : StreamSettings) (head : VideoHead) (count time : ℕ) (unit idr datagram : List ℕ)
-    → datagram ≡ video_header head ++ frame_image 2 unit (numbers.packet - 16) → head ≡ lone_head numbers count (count + 1) time → unit ≡ idr → numbers ≡ settings
+    → datagram ≡ video_header head ++ frame_image 2 unit (numbers.packet - 16) → head ≡ lone_head numbers count (count + 1) time → unit ≡ idr
+    → numbers ≡ settings
     → datagram ≡ lone_datagram settings count (count + 1) time idr
 sent_bytes numbers settings head count time unit idr datagram bytes head_is unit_is same =
     bytes

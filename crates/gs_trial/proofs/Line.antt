@@ -6,7 +6,7 @@ use Rattle.std.specs.List.{AllByRecursion}
 use Rattle.std.specs.Str.Parse.{AllDigits}
 use Rattle.std.proofs.lemmas.Str.Parse.{tells_digits, numerals_by_value, digit_from_value}
 use Rattle.std.proofs.lemmas.Fmt.{digits_decimal}
-use Rattle.gs_trial.specs.Schedule.{Lacks, IsStep, line_of, lines_of, onto_line}
+use Rattle.gs_trial.specs.Schedule.{Lacks, HasStepNumbers, line_of, lines_of, onto_line}
 use Rattle.gs_trial.specs.declared.step.Step.{Step}
 
 -- a text has one first word
@@ -41,7 +41,7 @@ if_none P (Some x) p = tt
 
 -- a step's line may be read in another spelling of itself
 pub step_of_line : (o : Option Step) (line text : List ℕ) → line ≡ text
-    → IfSome o (λ s. (text ≡ line_of s) × IsStep s) → IfSome o (λ s. (line ≡ line_of s) × IsStep s)
+    → IfSome o (λ s. (text ≡ line_of s) × HasStepNumbers s) → IfSome o (λ s. (line ≡ line_of s) × HasStepNumbers s)
 step_of_line None line text e h = tt
 step_of_line (Some s) line text e h = (e ∙ h.0, h.1)
 
@@ -67,8 +67,8 @@ lines_of-whole [] h l = absurd (omega arith)
 lines_of-whole (b ∷ line) h l = lines_of-last b line l
 
 -- a line that is no step's stands among no steps' lines
-pub not_a_step : (done : List (List ℕ)) (line : List ℕ) (more : List (List ℕ)) (steps : List Step) → AllByRecursion IsStep steps
-    → ((s : Step) → IsStep s → line ≢ line_of s) → done ++ line ∷ more ≡ map line_of steps → ⊥
+pub not_a_step : (done : List (List ℕ)) (line : List ℕ) (more : List (List ℕ)) (steps : List Step) → AllByRecursion HasStepNumbers steps
+    → ((s : Step) → HasStepNumbers s → line ≢ line_of s) → done ++ line ∷ more ≡ map line_of steps → ⊥
 not_a_step [] line more [] h n e = cc
 not_a_step [] line more (s ∷ steps) h n e = let same : line ≡ line_of s = cc in n s h.0 same
 not_a_step (d ∷ done) line more [] h n e = cc

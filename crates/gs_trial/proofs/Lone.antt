@@ -37,7 +37,8 @@ unfolding frame_image
 lone_last_read s count frame time unit fits =
     let room : 16 + (8 + length unit) ≤ s.packet = fits.room in
     let most : s.packet ≤ 1440 = fits.packet_greatest in
-    little_number-reads_back 2 (last_length (length unit) (payload_of s)) (drop 38 (lone_datagram s count frame time unit)) (omega (arith, one_part s unit fits))
+    little_number-reads_back 2 (last_length (length unit) (payload_of s)) (drop 38 (lone_datagram s count frame time unit))
+    (omega (arith, one_part s unit fits))
     ∙ one_part s unit fits
 
 -- the unit

@@ -8,11 +8,13 @@ use Rattle.gs_tape.specs.Reading.{first_fault}
 use Rattle.gs_trial.specs.declared.step.Step.{Step}
 use Rattle.gs_trial.specs.Forms.{most_input, IsBuilt}
 use Rattle.gs_trial.specs.Run.{Tape, start, tape_of, text_from, text_of}
-use Rattle.gs_trial.specs.Trial.{Told, WasRead, IsRun}
+use Rattle.gs_bytes.specs.Told.{Told}
+use Rattle.gs_trial.specs.Trial.{WasRead, IsTrialRun}
 use Rattle.gs_trial.proofs.Durations.{known_duration}
 use Rattle.gs_trial.proofs.PairedRuns.{runs_are_paired, runs_hand_captured_units, runs_hand_references}
 
-pub was_read : (before now : Told) (bytes seen : List ℕ) → seen ≡ bytes → length bytes ≤ most_input + 1 → Consumes before.left now.left bytes → Appends before.taken now.taken bytes
+pub was_read : (before now : Told) (bytes seen : List ℕ) → seen ≡ bytes → length bytes ≤ most_input + 1 → Consumes before.left now.left bytes
+    → Appends before.taken now.taken bytes
     → (length bytes < most_input + 1 → IsAtEnd now.left) → (length bytes < most_input + 1 → SetsFlag before.met_end now.met_end) → WasRead before now seen
 was_read before now bytes seen e bound left taken at_end met_end =
     subst (WasRead before now) (sym e) (record {
@@ -25,7 +27,7 @@ was_read before now bytes seen e bound left taken at_end met_end =
 
 pub is_run : (tape_before tape_now schedule_before schedule_now : Told) (tape schedule : List ℕ) (steps : List Step)
     → WasRead tape_before tape_now tape → WasRead schedule_before schedule_now schedule → IsBuilt tape schedule steps
-    → All (λ b. b < 2 ^ 8) tape → IsRun tape_before tape_now schedule_before schedule_now tape schedule steps
+    → All (λ b. b < 2 ^ 8) tape → IsTrialRun tape_before tape_now schedule_before schedule_now tape schedule steps
 is_run tape_before tape_now schedule_before schedule_now tape schedule steps a b built fit =
     let known = known_duration tape built.capture.fault in
     let taken = built.steps_taken.taken in
@@ -39,6 +41,7 @@ is_run tape_before tape_now schedule_before schedule_now tape schedule steps a b
     }
 
 -- the text of a capture file without fault
-pub whole_text : (bytes : List ℕ) (tape : Tape) (steps : List Step) → first_fault bytes ≡ None → tape_of bytes ≡ tape → text_from tape true start steps ≡ text_of bytes steps
+pub whole_text : (bytes : List ℕ) (tape : Tape) (steps : List Step) → first_fault bytes ≡ None → tape_of bytes ≡ tape
+    → text_from tape true start steps ≡ text_of bytes steps
 whole_text bytes tape steps f t =
     ap (λ (t : Tape). text_from t true start steps) (sym t) ∙ ap (λ (b : Bool). text_from (tape_of bytes) b start steps) (sym (ap is_none f))

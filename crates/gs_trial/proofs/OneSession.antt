@@ -61,5 +61,13 @@ sent_state tape captured session small bare idr within newer =
     record {
       state_after = ap (λ (e : Option Entry). state_of captured (with_entry session e))
           (turn-sent tape captured session.history (tick_numbered tape.ticks captured) newest.tick there newest.small.deltas goes_on newer);
-      entry = (refl, refl, record { tick = newest.tick; there = there; fits = fits_one_packet session.settings newest.tick.idr bare.limits bare.percentage newest.small.idr });
+      entry = (
+        refl,
+        refl,
+        record {
+          tick = newest.tick;
+          there = there;
+          fits = fits_one_packet session.settings newest.tick.idr bare.limits bare.percentage newest.small.idr;
+        },
+      );
     }

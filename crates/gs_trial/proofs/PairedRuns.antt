@@ -160,7 +160,8 @@ sent_is_paired tape session captured t is newer there =
     }
 
 -- the choice, or nothing
-turn_is_paired : (tape : Tape) (session : Session) (captured : ℕ) (newest : Option Tick) → tick_numbered tape.ticks captured ≡ newest → IsPairedSession tape session
+turn_is_paired : (tape : Tape) (session : Session) (captured : ℕ) (newest : Option Tick) → tick_numbered tape.ticks captured ≡ newest
+    → IsPairedSession tape session
     → IsPairedSession tape (with_entry session (turn tape captured session.history newest))
 turn_is_paired tape session captured None there is = is
 turn_is_paired tape session captured (Some t) there is =
@@ -219,7 +220,8 @@ abbrev pub ArePaired : Tape → State → Type 0
 ArePaired tape state = AllByRecursion (IsPairedSession tape) state.sessions
 
 -- any step that is taken
-step_keeps_paired : (tape : Tape) (state : State) (s : Step) → IsCapture tape → ArePaired tape state → is_taken tape state s ≡ true → ArePaired tape (after tape state s)
+step_keeps_paired : (tape : Tape) (state : State) (s : Step) → IsCapture tape → ArePaired tape state → is_taken tape state s ≡ true
+    → ArePaired tape (after tape state s)
 unfolding after
 step_keeps_paired tape state (step.Session packet percentage minimum) capture are taken =
     all_push (IsPairedSession tape) state.sessions (opened tape state packet percentage minimum) are
@@ -248,7 +250,8 @@ pub runs_are_paired : RunsArePaired
 runs_are_paired bytes steps fit known taken = steps_keep_paired (tape_of bytes) start steps (is_capture bytes fit known) tt taken
 
 -- what holds of paired sessions holds of each session of every run
-pub of_paired : (Holds : Tape → Session → Type 0) → ((tape : Tape) (session : Session) → IsPairedSession tape session → Holds tape session) → OfEachSession Holds
+pub of_paired : (Holds : Tape → Session → Type 0) → ((tape : Tape) (session : Session) → IsPairedSession tape session → Holds tape session)
+    → OfEachSession Holds
 of_paired Holds each bytes steps fit known taken =
     let tape = tape_of bytes in
     all_each (IsPairedSession tape) (Holds tape) (behind tape start steps).sessions (each tape) (runs_are_paired bytes steps fit known taken)

@@ -1,7 +1,7 @@
 -- Which plans are run, and that the lines of a schedule are those of one list of steps.
 use Rattle.std.proofs.Common.{ℕ, ◌≡◌, ◌⊎◌, ◌-◌, ◌<◌, ◌≤◌, ◌^◌, Bool, true, false, ◌&&◌, ◌==◌, nat_le, List, [], ◌∷◌, ◌++◌, length, take, drop, map, Option, Some, None, is_some, IfSome, IfNone, slice_index_or, refl, sym, ap, subst, ◌∙◌, arith}
 use Rattle.std.specs.Prelude.{decimal}
-use Rattle.std.proofs.lemmas.Fmt.{decimal_injective}
+use Rattle.gs_bytes.proofs.Decimals.{decimal_once}
 use Rattle.std.proofs.lemmas.List.{take_rest, append_assoc}
 use Rattle.std.proofs.lemmas.Bool.{and_parts, eqb-true, leb-true}
 use Rattle.std.specs.List.{AllByRecursion, list_all}
@@ -10,7 +10,7 @@ use Rattle.gs_rtp.specs.Stream.{StreamSettings}
 use Rattle.gs_trial.specs.declared.step.Step.{Step}
 use Rattle.gs_trial.specs.declared.step.Step.TheVariants as step
 use Rattle.gs_trial.specs.declared.tape.SmallTick.{SmallTick}
-use Rattle.gs_trial.specs.Schedule.{IsStep, IsBusySchedule, line_of}
+use Rattle.gs_trial.specs.Schedule.{HasStepNumbers, IsBusySchedule, line_of}
 use Rattle.gs_trial.specs.Forms.{is_small_step, is_bare_session, are_small_steps, are_taken, IsBuilt}
 use Rattle.gs_trial.specs.Run.{Tape, State, start, is_taken, after, step_text, text_from, tape_of}
 use Rattle.gs_trial.specs.Output.{done_line}
@@ -126,10 +126,12 @@ run_rest d ticks s rest steps r e o h =
     let t = opens_taken (seen d ticks) s o in
     let a = after_opens d ticks s o in
     h ∙ ap (λ (st : State). list_all is_small_step rest && are_taken (seen d ticks) st rest) (sym a)
-    ∙ sym (and_on (is_bare_session s) (list_all is_small_step rest) (is_taken (seen d ticks) start s) (are_taken (seen d ticks) (after (seen d ticks) start s) rest) t.0 t.1)
+    ∙ sym (and_on (is_bare_session s) (list_all is_small_step rest) (is_taken (seen d ticks) start s)
+    (are_taken (seen d ticks) (after (seen d ticks) start s) rest) t.0 t.1)
     ∙ ap (λ (l : List Step). are_small_steps l && are_taken (seen d ticks) start l) (sym e)
 
-pub run_none : (tape : Tape) (s : Step) (rest steps : List Step) → steps ≡ s ∷ rest → opens s ≡ false → false ≡ (are_small_steps steps && are_taken tape start steps)
+pub run_none : (tape : Tape) (s : Step) (rest steps : List Step) → steps ≡ s ∷ rest → opens s ≡ false
+    → false ≡ (are_small_steps steps && are_taken tape start steps)
 unfolding are_taken
 run_none tape s rest steps e o =
     and_off (is_bare_session s) (list_all is_small_step rest) (is_taken tape start s) (are_taken tape (after tape start s) rest)
@@ -146,11 +148,18 @@ may_run d ticks s rest steps settings plan e o same =
     let taken : are_taken (seen d ticks) start (s ∷ rest) ≡ true = ap (are_taken (seen d ticks) start) (sym e) ∙ plan.taken in
     let small_rest = (and_parts (is_bare_session s) (list_all is_small_step rest) small).1 in
     let taken_rest = (and_parts (is_taken (seen d ticks) start s) (are_taken (seen d ticks) (after (seen d ticks) start s) rest) taken).1 in
-    let fresh : are_taken (seen d ticks) (fresh_state (first_settings d s)) rest ≡ true = ap (λ (st : State). are_taken (seen d ticks) st rest) (sym (after_opens d ticks s o)) ∙ taken_rest in
+    let fresh : are_taken (seen d ticks) (fresh_state (first_settings d s)) rest ≡ true =
+    ap (λ (st : State). are_taken (seen d ticks) st rest) (sym (after_opens d ticks s o)) ∙ taken_rest in
     let at : are_taken (seen (first_settings d s).duration ticks) (fresh_state (first_settings d s)) rest ≡ true =
     ap (λ (n : ℕ). are_taken (seen n ticks) (fresh_state (first_settings d s)) rest) (duration_of_first d s o) ∙ fresh in
     let P : StreamSettings → Type 0 = λ st. MayRun ticks st rest in
-    subst P (sym same) (record { bare = bare_first d s plan.known o; small_ticks = plan.small_ticks; few_ticks = plan.few_ticks; small_steps = small_rest; taken = at })
+    subst P (sym same) (record {
+      bare = bare_first d s plan.known o;
+      small_ticks = plan.small_ticks;
+      few_ticks = plan.few_ticks;
+      small_steps = small_rest;
+      taken = at;
+    })
 
 -- a plan whose first step opens no session isn't run
 pub none_may_run : (d : ℕ) (ticks : List SmallTick) (s : Step) (rest steps : List Step) → MayRunPlan d ticks steps → steps ≡ s ∷ rest → opens s ≡ false → ⊥
@@ -162,7 +171,8 @@ none_may_run d ticks s rest steps plan e o =
 opened_text : (d : ℕ) (ticks : List SmallTick) (s : Step) (rest : List Step) → opens s ≡ true
     → text_from (seen d ticks) true (after (seen d ticks) start s) rest ≡ text_from (seen d ticks) true start (s ∷ rest)
 unfolding step_text
-opened_text d ticks (step.Session p q m) rest o = sym (first_text (seen d ticks) start (step.Session p q m) rest (opens_taken (seen d ticks) (step.Session p q m) o).1)
+opened_text d ticks (step.Session p q m) rest o = sym (first_text (seen d ticks) start (step.Session p q m) rest
+    (opens_taken (seen d ticks) (step.Session p q m) o).1)
 opened_text d ticks step.Cap rest o = absurd cc
 opened_text d ticks (step.Send n) rest o = absurd cc
 opened_text d ticks (step.Video n k) rest o = absurd cc
@@ -182,24 +192,23 @@ empty_text tape (s ∷ steps) h = absurd (omega arith)
 
 -- ---- lines of one list of steps
 
-numbers_same : (m n : ℕ) → m < 2 ^ 32 → n < 2 ^ 32 → decimal m ≡ decimal n → m ≡ n
-numbers_same m n a b e = decimal_injective m n (omega arith) (omega arith) e
-
 session_tail : (p q m x y z : ℕ) → line_of (step.Session p q m) ≡ line_of (step.Session x y z)
     → decimal p ++ 32 ∷ (decimal q ++ 32 ∷ decimal m) ≡ decimal x ++ 32 ∷ (decimal y ++ 32 ∷ decimal z)
 session_tail p q m x y z e =
-    sym (append_assoc (decimal p) (32 ∷ decimal q) (32 ∷ decimal m)) ∙ (let f : (decimal p ++ 32 ∷ decimal q) ++ 32 ∷ decimal m ≡ (decimal x ++ 32 ∷ decimal y) ++ 32 ∷ decimal z = cc in f)
+    sym (append_assoc (decimal p) (32 ∷ decimal q) (32 ∷ decimal m))
+    ∙ (let f : (decimal p ++ 32 ∷ decimal q) ++ 32 ∷ decimal m ≡ (decimal x ++ 32 ∷ decimal y) ++ 32 ∷ decimal z = cc in f)
     ∙ append_assoc (decimal x) (32 ∷ decimal y) (32 ∷ decimal z)
 
 video_tail : (n i m j : ℕ) → line_of (step.Video n i) ≡ line_of (step.Video m j) → decimal n ++ 32 ∷ decimal i ≡ decimal m ++ 32 ∷ decimal j
 video_tail n i m j e = cc
 
-pub line_same : (s t : Step) → IsStep s → IsStep t → line_of s ≡ line_of t → s ≡ t
+pub line_same : (s t : Step) → HasStepNumbers s → HasStepNumbers t → line_of s ≡ line_of t → s ≡ t
 line_same (step.Session p q m) (step.Session x y z) h k e =
     let r : decimal p ++ 32 ∷ (decimal q ++ 32 ∷ decimal m) ≡ decimal x ++ 32 ∷ (decimal y ++ 32 ∷ decimal z) = session_tail p q m x y z e in
-    let a = split_unique (decimal p) (decimal q ++ 32 ∷ decimal m) (decimal x) (decimal y ++ 32 ∷ decimal z) (decimal_no_space p (omega arith)) (decimal_no_space x (omega arith)) r in
+    let a = split_unique (decimal p) (decimal q ++ 32 ∷ decimal m) (decimal x) (decimal y ++ 32 ∷ decimal z) (decimal_no_space p (omega arith))
+    (decimal_no_space x (omega arith)) r in
     let b = split_unique (decimal q) (decimal m) (decimal y) (decimal z) (decimal_no_space q (omega arith)) (decimal_no_space y (omega arith)) a.1 in
-    rw (numbers_same p x h.0 k.0 a.0, numbers_same q y h.1 k.1 b.0, numbers_same m z h.2 k.2 b.1) refl
+    rw (decimal_once p x h.0 k.0 a.0, decimal_once q y h.1 k.1 b.0, decimal_once m z h.2 k.2 b.1) refl
 line_same (step.Session p q m) step.Cap h k e = let f : ◌≡◌ {A = ℕ} 115 99 = cc in absurd (omega arith)
 line_same (step.Session p q m) (step.Send n) h k e = let f : ◌≡◌ {A = ℕ} 115 110 = cc in absurd (omega arith)
 line_same (step.Session p q m) (step.Video n i) h k e = let f : ◌≡◌ {A = ℕ} 115 118 = cc in absurd (omega arith)
@@ -211,7 +220,7 @@ line_same (step.Send n) (step.Session p q m) h k e = let f : ◌≡◌ {A = ℕ}
 line_same (step.Send n) step.Cap h k e = let f : ◌≡◌ {A = ℕ} 115 99 = cc in absurd (omega arith)
 line_same (step.Send n) (step.Send m) h k e =
     let r : decimal n ≡ decimal m = cc in
-    rw (numbers_same n m h k r) refl
+    rw (decimal_once n m h k r) refl
 line_same (step.Send n) (step.Video m i) h k e = let f : ◌≡◌ {A = ℕ} 115 118 = cc in absurd (omega arith)
 line_same (step.Video n i) (step.Session p q m) h k e = let f : ◌≡◌ {A = ℕ} 118 115 = cc in absurd (omega arith)
 line_same (step.Video n i) step.Cap h k e = let f : ◌≡◌ {A = ℕ} 118 99 = cc in absurd (omega arith)
@@ -219,9 +228,9 @@ line_same (step.Video n i) (step.Send m) h k e = let f : ◌≡◌ {A = ℕ} 118
 line_same (step.Video n i) (step.Video m j) h k e =
     let r : decimal n ++ 32 ∷ decimal i ≡ decimal m ++ 32 ∷ decimal j = video_tail n i m j e in
     let a = split_unique (decimal n) (decimal i) (decimal m) (decimal j) (decimal_no_space n (omega arith)) (decimal_no_space m (omega arith)) r in
-    rw (numbers_same n m h.0 k.0 a.0, numbers_same i j h.1 k.1 a.1) refl
+    rw (decimal_once n m h.0 k.0 a.0, decimal_once i j h.1 k.1 a.1) refl
 
-pub steps_same : (ss ts : List Step) → AllByRecursion IsStep ss → AllByRecursion IsStep ts → map line_of ss ≡ map line_of ts → ss ≡ ts
+pub steps_same : (ss ts : List Step) → AllByRecursion HasStepNumbers ss → AllByRecursion HasStepNumbers ts → map line_of ss ≡ map line_of ts → ss ≡ ts
 steps_same [] [] h k e = refl
 steps_same [] (t ∷ ts) h k e = absurd cc
 steps_same (s ∷ ss) [] h k e = absurd cc
@@ -237,6 +246,7 @@ not_built bytes schedule tape steps r same lines is off others built =
     let one : others ≡ steps = steps_same others steps built.steps_taken.lines.schedule.numbers lines.schedule.numbers
     (sym (busy_lines schedule others built.steps_taken.lines) ∙ busy_lines schedule steps lines) in
     let small : are_small_steps steps ≡ true = ap are_small_steps (sym one) ∙ built.steps_taken.small in
-    let taken : are_taken tape start steps ≡ true = ap (λ (t : Tape). are_taken t start steps) (sym same) ∙ ap (are_taken (tape_of bytes) start) (sym one) ∙ built.steps_taken.taken in
+    let taken : are_taken tape start steps ≡ true = ap (λ (t : Tape). are_taken t start steps) (sym same) ∙ ap (are_taken (tape_of bytes) start) (sym one)
+    ∙ built.steps_taken.taken in
     let on : (are_small_steps steps && are_taken tape start steps) ≡ true = rw (small, taken) refl in
     cc

@@ -57,13 +57,24 @@ pub duration_other : (d : ℕ) → d ≢ 5 → d ≢ 10 → not (d == 5 || d == 
 duration_other d five ten = grind (arith, five, ten)
 
 -- a head has the audio length that was read
-pub head_audio : (size a : ℕ) (r : List ℕ) → IfOk {T = Head × List ℕ} (unless (nat_lt most_audio a) (AudioLength a) (Ok r) >>= λ within. number_at size 1 within >>= λ duration. unless (not (duration.0 == 5 || duration.0 == 10)) (Malformed 1 (size - length within)) (Ok duration.1) >>= λ known. number_at size 1 known >>= λ last. unless (not (last.0 == 0)) (Malformed 1 (size - length known)) (Ok (record { audio = a; duration = duration.0 }, last.1))) (λ h. h.0.audio ≡ a)
+pub head_audio : (size a : ℕ) (r : List ℕ) → IfOk {T = Head × List ℕ}
+    (unless (nat_lt most_audio a) (AudioLength a) (Ok r) >>= λ within. number_at size 1 within >>= λ duration. unless
+    (not (duration.0 == 5 || duration.0 == 10)) (Malformed 1 (size - length within)) (Ok duration.1) >>= λ known. number_at size 1 known >>= λ last. unless
+    (not (last.0 == 0)) (Malformed 1 (size - length known)) (Ok (record { audio = a; duration = duration.0 }, last.1))) (λ h. h.0.audio ≡ a)
 head_audio size a r =
     let P : Head × List ℕ → Type 0 = λ h. h.0.audio ≡ a in
-    bind-all (unless (nat_lt most_audio a) (AudioLength a) (Ok r)) (λ within. number_at size 1 within >>= λ duration. unless (not (duration.0 == 5 || duration.0 == 10)) (Malformed 1 (size - length within)) (Ok duration.1) >>= λ known. number_at size 1 known >>= λ last. unless (not (last.0 == 0)) (Malformed 1 (size - length known)) (Ok (record { audio = a; duration = duration.0 }, last.1))) P (λ within.
-    bind-all (number_at size 1 within) (λ duration. unless (not (duration.0 == 5 || duration.0 == 10)) (Malformed 1 (size - length within)) (Ok duration.1) >>= λ known. number_at size 1 known >>= λ last. unless (not (last.0 == 0)) (Malformed 1 (size - length known)) (Ok (record { audio = a; duration = duration.0 }, last.1))) P (λ duration.
-    bind-all (unless (not (duration.0 == 5 || duration.0 == 10)) (Malformed 1 (size - length within)) (Ok duration.1)) (λ known. number_at size 1 known >>= λ last. unless (not (last.0 == 0)) (Malformed 1 (size - length known)) (Ok (record { audio = a; duration = duration.0 }, last.1))) P (λ known.
-    bind-all (number_at size 1 known) (λ last. unless (not (last.0 == 0)) (Malformed 1 (size - length known)) (Ok (record { audio = a; duration = duration.0 }, last.1))) P (λ last.
+    bind-all (unless (nat_lt most_audio a) (AudioLength a) (Ok r))
+    (λ within. number_at size 1 within >>= λ duration. unless (not (duration.0 == 5 || duration.0 == 10)) (Malformed 1 (size - length within))
+    (Ok duration.1) >>= λ known. number_at size 1 known >>= λ last. unless (not (last.0 == 0)) (Malformed 1 (size - length known))
+    (Ok (record { audio = a; duration = duration.0 }, last.1))) P (λ within.
+    bind-all (number_at size 1 within) (λ duration. unless (not (duration.0 == 5 || duration.0 == 10)) (Malformed 1 (size - length within))
+    (Ok duration.1) >>= λ known. number_at size 1 known >>= λ last. unless (not (last.0 == 0)) (Malformed 1 (size - length known))
+    (Ok (record { audio = a; duration = duration.0 }, last.1))) P (λ duration.
+    bind-all (unless (not (duration.0 == 5 || duration.0 == 10)) (Malformed 1 (size - length within)) (Ok duration.1))
+    (λ known. number_at size 1 known >>= λ last. unless (not (last.0 == 0)) (Malformed 1 (size - length known))
+    (Ok (record { audio = a; duration = duration.0 }, last.1))) P (λ known.
+    bind-all (number_at size 1 known) (λ last. unless (not (last.0 == 0)) (Malformed 1 (size - length known))
+    (Ok (record { audio = a; duration = duration.0 }, last.1))) P (λ last.
     unless-all (not (last.0 == 0)) (Malformed 1 (size - length known)) (Ok (record { audio = a; duration = duration.0 }, last.1)) P refl))))
 
 -- an implication under IfOk
@@ -86,10 +97,12 @@ cut_other size n r false e (inr cut) = λ small. let long : n ≤ length r = ltb
 
 -- a unit that is too long for a small one, or that is cut
 pub unit_other : (size number held n : ℕ) (r : List ℕ) → (1000 < n) ⊎ ((n ≤ 1000) × (length r < n))
-    → IfOk {T = List ℕ × List ℕ} (unless (nat_lt most_unit n) (UnitTooLarge number) (Ok r) >>= λ fits. unless (nat_lt most_bytes (held + n)) (Full number) (Ok fits) >>= λ room. bytes_at size n room) (λ u. length u.0 ≤ 1000 → ⊥)
+    → IfOk {T = List ℕ × List ℕ} (unless (nat_lt most_unit n) (UnitTooLarge number) (Ok r) >>= λ fits. unless (nat_lt most_bytes (held + n)) (Full number)
+    (Ok fits) >>= λ room. bytes_at size n room) (λ u. length u.0 ≤ 1000 → ⊥)
 unit_other size number held n r h =
     let P : List ℕ × List ℕ → Type 0 = λ u. length u.0 ≤ 1000 → ⊥ in
-    bind-each (unless (nat_lt most_unit n) (UnitTooLarge number) (Ok r)) (λ fits. unless (nat_lt most_bytes (held + n)) (Full number) (Ok fits) >>= λ room. bytes_at size n room) P (λ fits f.
+    bind-each (unless (nat_lt most_unit n) (UnitTooLarge number) (Ok r))
+    (λ fits. unless (nat_lt most_bytes (held + n)) (Full number) (Ok fits) >>= λ room. bytes_at size n room) P (λ fits f.
     bind-each (unless (nat_lt most_bytes (held + n)) (Full number) (Ok fits)) (λ room. bytes_at size n room) P (λ room e.
     let first : r ≡ fits = unless-ok (nat_lt most_unit n) (UnitTooLarge number) r fits f in
     let second : fits ≡ room = unless-ok (nat_lt most_bytes (held + n)) (Full number) fits room e in
@@ -97,7 +110,8 @@ unit_other size number held n r h =
 
 -- a small unit that is there
 pub unit_read : (size number held n : ℕ) (r : List ℕ) → n ≤ 1000 → n ≤ length r → held + n ≤ most_bytes
-    → (unless (nat_lt most_unit n) (UnitTooLarge number) (Ok r) >>= λ fits. unless (nat_lt most_bytes (held + n)) (Full number) (Ok fits) >>= λ room. bytes_at size n room) ≡ Ok (take n r, take (length r - n) (drop n r))
+    → (unless (nat_lt most_unit n) (UnitTooLarge number) (Ok r) >>= λ fits. unless (nat_lt most_bytes (held + n)) (Full number)
+    (Ok fits) >>= λ room. bytes_at size n room) ≡ Ok (take n r, take (length r - n) (drop n r))
 unit_read size number held n r small long room =
     let a : nat_lt most_unit n ≡ false = le-ltb most_unit n (omega arith) in
     let b : nat_lt most_bytes (held + n) ≡ false = le-ltb most_bytes (held + n) room in

@@ -64,7 +64,8 @@ pub taken-video : (tape : Tape) (state : State) (only : Run.Session) (k : ℕ) �
 taken-video tape state only k one = ap (λ (sessions : List Run.Session). is_taken tape (state_of state.captured sessions) (step.Video 1 k)) one
 
 -- a session that stands for one session stands for a state that has it alone
-pub stand_for : {ticks : List SmallTick} {session : Session} {tape : Tape} (state : State) (captured : ℕ) (only : Run.Session) → state ≡ one_session captured only
+pub stand_for : {ticks : List SmallTick} {session : Session} {tape : Tape} (state : State) (captured : ℕ) (only : Run.Session)
+    → state ≡ one_session captured only
     → StandsFor ticks session tape (one_session captured only) → StandsFor ticks session tape state
 stand_for {ticks} {session} {tape} state captured only e stands =
     let P : State → Type 0 = StandsFor ticks session tape in subst P (sym e) stands
@@ -72,7 +73,8 @@ stand_for {ticks} {session} {tape} state captured only e stands =
 -- ---- the beginning
 
 -- a session that did nothing
-pub fresh_stands : (ticks : List SmallTick) (session : Session) (tape : Tape) (settings : StreamSettings) → tape.ticks ≡ ticks_seen 1 ticks → All (λ t. length t.idr ≤ 1000) ticks
+pub fresh_stands : (ticks : List SmallTick) (session : Session) (tape : Tape) (settings : StreamSettings) → tape.ticks ≡ ticks_seen 1 ticks
+    → All (λ t. length t.idr ≤ 1000) ticks
     → length ticks ≤ most_input → session.captured ≡ 0 → IsBare settings
     → ((ticks : List Tick) → HostStandsFor ticks settings session.host []) → ((settings : StreamSettings) → ClientStandsFor settings session.client [])
     → StandsFor ticks session tape (fresh_state settings)
@@ -93,7 +95,8 @@ fresh_stands ticks session tape settings seen small few captured bare host clien
 
 -- ---- the capture gains a tick
 
-pub cap_acted : (ticks : List SmallTick) (old new : Session) (tape : Tape) (state : State) (text : List ℕ) → StandsFor ticks old tape state → is_taken tape state step.Cap ≡ true
+pub cap_acted : (ticks : List SmallTick) (old new : Session) (tape : Tape) (state : State) (text : List ℕ) → StandsFor ticks old tape state
+    → is_taken tape state step.Cap ≡ true
     → new.captured ≡ old.captured + 1 → new.host ≡ old.host → new.client ≡ old.client → IsActed ticks new tape state step.Cap text text
 unfolding after step_text
 cap_acted ticks old new tape state text s taken captured host client =
@@ -145,7 +148,8 @@ not_sent_acted ticks old new tape state text s nothing captured client host =
     }
 
 -- the newest tick went out
-pub sent_acted : (ticks : List SmallTick) (old new : Session) (tape : Tape) (state : State) (tick : SmallTick) (text text' : List ℕ) → (s : StandsFor ticks old tape state)
+pub sent_acted : (ticks : List SmallTick) (old new : Session) (tape : Tape) (state : State) (tick : SmallTick) (text text' : List ℕ)
+    → (s : StandsFor ticks old tape state)
     → last_tick s.only.history < state.captured → slice_get ticks (state.captured - 1) ≡ Some tick → new.captured ≡ old.captured → new.client ≡ old.client
     → HostStandsFor tape.ticks s.only.settings new.host (Sent state.captured 2 0 ∷ s.only.history)
     → text' ≡ text ++ sent_line 1 (vec_len new.host.datagrams) 2 old.captured 0 → IsActed ticks new tape state (step.Send 1) text text'
@@ -184,12 +188,14 @@ pub record IsTurn (ticks : List SmallTick) (tape : Tape) (only : Run.Session) (c
   pub newer : sent ≡ nat_lt (last_tick only.history) captured
   pub stands : HostStandsFor tape.ticks only.settings host (behind_turn sent captured only.history)
 
-pub turned : (ticks : List SmallTick) (session : Session) (tape : Tape) (state : State) (tick : SmallTick) (host : Host) (sent : Bool) → (s : StandsFor ticks session tape state)
+pub turned : (ticks : List SmallTick) (session : Session) (tape : Tape) (state : State) (tick : SmallTick) (host : Host) (sent : Bool)
+    → (s : StandsFor ticks session tape state)
     → (session.captured ≡ 0 → ⊥) → tick ≡ get_or ticks (session.captured - 1) tick → sent ≡ nat_lt session.host.last_tick session.captured
     → Sends session.host host session.captured tick sent → IsTurn ticks tape s.only state.captured tick host sent
 turned ticks session tape state tick host sent s some read newer sends =
     let within : state.captured ≤ length ticks = s.captured_within in
-    let there : slice_get ticks (session.captured - 1) ≡ Some tick = slice_get_read ticks (length ticks) (session.captured - 1) tick refl (omega (arith, s.captured)) read in
+    let there : slice_get ticks (session.captured - 1) ≡ Some tick =
+    slice_get_read ticks (length ticks) (session.captured - 1) tick refl (omega (arith, s.captured)) read in
     let found : tick_numbered tape.ticks session.captured ≡ Some (tick_seen session.captured tick) =
     ap (λ (ts : List Tick). tick_numbered ts session.captured) s.ticks_are ∙ seen_numbered session.captured ticks tick (omega arith) there in
     let H : ℕ → Type 0 = λ n. HostStandsFor tape.ticks s.only.settings host (behind_turn sent n s.only.history) in
@@ -200,7 +206,8 @@ turned ticks session tape state tick host sent s some read newer sends =
     }
 
 pub none_sent : {ticks : List SmallTick} {tape : Tape} {only : Run.Session} {captured : ℕ} {tick : SmallTick} {host : Host} {sent : Bool}
-    → IsTurn ticks tape only captured tick host sent → sent ≡ false → (captured ≤ last_tick only.history) × HostStandsFor tape.ticks only.settings host only.history
+    → IsTurn ticks tape only captured tick host sent → sent ≡ false
+    → (captured ≤ last_tick only.history) × HostStandsFor tape.ticks only.settings host only.history
 none_sent {ticks} {tape} {only} {captured} {tick} {host} {sent} turn none =
     let H : Bool → Type 0 = λ b. HostStandsFor tape.ticks only.settings host (behind_turn b captured only.history) in
     (ltb-false (last_tick only.history) captured (sym turn.newer ∙ none), subst H none turn.stands)
@@ -219,14 +226,17 @@ pub record IsDelivered (tape : Tape) (only : Run.Session) (k : ℕ) (datagram : 
   pub found : slice_get (stream_of tape only) (k - 1) ≡ Some datagram
   pub sent : IsDatagramOf only.settings k (unit_of tape.ticks only.history k) datagram
 
-pub delivered : (ticks : List SmallTick) (session : Session) (tape : Tape) (state : State) (k : ℕ) (datagram : List ℕ) → (s : StandsFor ticks session tape state)
-    → is_taken tape state (step.Video 1 k) ≡ true → slice_get (map (λ d. d.items) session.host.datagrams.items) (k - 1) ≡ Some datagram → IsDelivered tape s.only k datagram
+pub delivered : (ticks : List SmallTick) (session : Session) (tape : Tape) (state : State) (k : ℕ) (datagram : List ℕ)
+    → (s : StandsFor ticks session tape state)
+    → is_taken tape state (step.Video 1 k) ≡ true → slice_get (map (λ d. d.items) session.host.datagrams.items) (k - 1) ≡ Some datagram
+    → IsDelivered tape s.only k datagram
 delivered ticks session tape state k datagram s taken kept =
     let stream = stream_of tape s.only in
     let nameable : is_nameable stream k ≡ true = sym (taken-video tape state s.only k s.is_only) ∙ taken in
     let parts = and_parts (nat_le 1 k && nat_le k (length stream)) (nat_lt (length stream - k) 65536) nameable in
     let ends = and_parts (nat_le 1 k) (nat_le k (length stream)) parts.0 in
-    let lone : IsLoneStream s.only.settings tape.ticks s.only.history = lone_stream s.only.settings tape.ticks s.only.history (are_lone s.only.settings tape.ticks s.only.history s.host.idr) in
+    let lone : IsLoneStream s.only.settings tape.ticks s.only.history =
+    lone_stream s.only.settings tape.ticks s.only.history (are_lone s.only.settings tape.ticks s.only.history s.host.idr) in
     let least : 1 ≤ k = leb-true 1 k ends.0 in
     let within : k ≤ length stream = leb-true k (length stream) ends.1 in
     let most : k ≤ frames s.only.history = omega (arith, lone.count) in
@@ -253,7 +263,8 @@ gained-none : {A : Type 0} (old new : List A) → new ≡ old → gained old new
 gained-none {A} old new e = ap (drop (length old)) e ∙ drop_all (length old) old (omega arith)
 
 -- nothing is told of it
-pub passed_acted : (ticks : List SmallTick) (old new : Session) (tape : Tape) (state : State) (k : ℕ) (text datagram : List ℕ) → (s : StandsFor ticks old tape state)
+pub passed_acted : (ticks : List SmallTick) (old new : Session) (tape : Tape) (state : State) (k : ℕ) (text datagram : List ℕ)
+    → (s : StandsFor ticks old tape state)
     → IsDelivered tape s.only k datagram → new.captured ≡ old.captured → new.host ≡ old.host
     → IsPassed s.only.settings new.client datagram s.only.came → IsActed ticks new tape state (step.Video 1 k) text text
 unfolding one_session
@@ -280,13 +291,15 @@ passed_acted ticks old new tape state k text datagram s d captured host passed =
       text = sym (ap (λ (l : List ℕ). text ++ l)
           (text-video tape state s.only k s.is_only
           ∙ ap (λ (o : Option (List ℕ)). client_lines 1 s.only (with_datagram s.only o)) d.found
-          ∙ ap (λ (l : List Range). flat_map (ask_line 1) l ++ flat_map (hand_lines 1) (gained (narrow_handed s.only.settings s.only.came) (narrow_handed s.only.settings (datagram ∷ s.only.came)))) asked
+          ∙ ap (λ (l : List Range). flat_map (ask_line 1) l ++ flat_map (hand_lines 1)
+          (gained (narrow_handed s.only.settings s.only.came) (narrow_handed s.only.settings (datagram ∷ s.only.came)))) asked
           ∙ ap (λ (l : List Handed). flat_map (hand_lines 1) l) told)
           ∙ append-nil text);
     }
 
 -- its frame is handed over
-pub handed_acted : (ticks : List SmallTick) (old new : Session) (tape : Tape) (state : State) (k : ℕ) (text text' text'' datagram : List ℕ) (frame : ℕ) (lost : List Range) (unit : List ℕ)
+pub handed_acted : (ticks : List SmallTick) (old new : Session) (tape : Tape) (state : State) (k : ℕ) (text text' text'' datagram : List ℕ) (frame : ℕ)
+    (lost : List Range) (unit : List ℕ)
     → (s : StandsFor ticks old tape state) → IsDelivered tape s.only k datagram → new.captured ≡ old.captured → new.host ≡ old.host
     → IsHanded s.only.settings new.client datagram s.only.came frame lost unit
     → text' ≡ text ++ flat_map (ask_line 1) lost → text'' ≡ text' ++ hand_lines 1 (record { frame = frame; kind = 2; unit = unit })

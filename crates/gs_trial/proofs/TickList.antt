@@ -37,11 +37,13 @@ more s' size number time held rest t held' after few e =
 -- one more tick is read
 pub ticks_at-more : (s size number time held : ℕ) (rest : List ℕ) (t : Tick) (held' : ℕ) (after : List ℕ) → length rest < s → number ≤ most_ticks
     → tick_at size 0 (known_before number time held) rest ≡ Ok (t, (held', after))
-    → (s' : ℕ) × (s ≡ suc s') × (ticks_at s size 0 (known_before number time held) (0x54 ∷ rest) ≡ and_then t (ticks_at s' size 0 (known_before (number + 1) t.time held') after))
+    → (s' : ℕ) × (s ≡ suc s') × (ticks_at s size 0 (known_before number time held) (0x54 ∷ rest)
+    ≡ and_then t (ticks_at s' size 0 (known_before (number + 1) t.time held') after))
 ticks_at-more zero size number time held rest t held' after room few e = absurd (omega arith)
 ticks_at-more (suc s') size number time held rest t held' after room few e = (s', refl, more s' size number time held rest t held' after few e)
 
-pub before_rest-push : (n : ℕ) (ts : List SmallTick) (t : SmallTick) (r : Read) → before_rest (ticks_seen n ts) (and_then (tick_seen (n + length ts) t) r) ≡ before_rest (ticks_seen n (ts ++ t ∷ [])) r
+pub before_rest-push : (n : ℕ) (ts : List SmallTick) (t : SmallTick) (r : Read)
+    → before_rest (ticks_seen n ts) (and_then (tick_seen (n + length ts) t) r) ≡ before_rest (ticks_seen n (ts ++ t ∷ [])) r
 before_rest-push n ts t r =
     ap (λ (us : List Tick). record { ticks = us; fault = r.fault })
     (sym (append_assoc (ticks_seen n ts) (tick_seen (n + length ts) t ∷ []) r.ticks) ∙ ap (λ (us : List Tick). us ++ r.ticks) (sym (ticks_seen-push n ts t)))
@@ -103,10 +105,12 @@ unfolding ticks_at
 other_tick zero size number time held rest few h = λ none all. some-none _ none
 other_tick (suc s) size number time held rest few h =
     let f : nat_lt most_ticks number ≡ false = le-ltb most_ticks number few in
-    rw (f, ticks_at) (other_with (tick_at size 0 (known_before number time held) rest) (λ t held' left. ticks_at s size 0 (known_before (number + 1) t.time held') left) h)
+    rw (f, ticks_at) (other_with (tick_at size 0 (known_before number time held) rest)
+    (λ t held' left. ticks_at s size 0 (known_before (number + 1) t.time held') left) h)
 
 -- the same of bytes that are known to begin so
-pub end_at : (s size : ℕ) (before : Before) (xs after : List ℕ) → xs ≡ 0x45 ∷ after → length xs ≤ s → length after ≡ 0 → ticks_at s size 0 before xs ≡ ends_with None
+pub end_at : (s size : ℕ) (before : Before) (xs after : List ℕ) → xs ≡ 0x45 ∷ after → length xs ≤ s → length after ≡ 0
+    → ticks_at s size 0 before xs ≡ ends_with None
 end_at s size before xs [] e room z = rw e (ticks_at-end s size before (let long : length xs ≡ 1 = ap length e in omega arith))
 end_at s size before xs (b ∷ after) e room z = absurd (omega arith)
 
@@ -118,10 +122,12 @@ pub other_cut_at : (s size : ℕ) (before : Before) (xs : List ℕ) → length x
 other_cut_at s size before [] e = other_cut s size before
 other_cut_at s size before (b ∷ xs) e = absurd (omega arith)
 
-pub other_tag_at : (s size tag : ℕ) (before : Before) (xs after : List ℕ) → xs ≡ tag ∷ after → tag ≢ 0x45 → tag ≢ 0x54 → AreOtherTicks (ticks_at s size 0 before xs)
+pub other_tag_at : (s size tag : ℕ) (before : Before) (xs after : List ℕ) → xs ≡ tag ∷ after → tag ≢ 0x45 → tag ≢ 0x54
+    → AreOtherTicks (ticks_at s size 0 before xs)
 other_tag_at s size tag before xs after e a b = rw e (other_tag s size tag before after a b)
 
-pub other_tick_at : (s size number time held : ℕ) (xs after : List ℕ) → xs ≡ 0x54 ∷ after → number ≤ most_ticks → IsOtherTick (tick_at size 0 (known_before number time held) after)
+pub other_tick_at : (s size number time held : ℕ) (xs after : List ℕ) → xs ≡ 0x54 ∷ after → number ≤ most_ticks
+    → IsOtherTick (tick_at size 0 (known_before number time held) after)
     → AreOtherTicks (ticks_at s size 0 (known_before number time held) xs)
 other_tick_at s size number time held xs after e few h = rw e (other_tick s size number time held after few h)
 
@@ -138,17 +144,23 @@ pub ticks_step : (ts : List SmallTick) (time size s : ℕ) (xs rest after : List
     → 1 + length ts ≤ most_ticks → length after ≤ length rest
     → tick_at size 0 (known_before (1 + length ts) time (held_by ts)) rest ≡ Ok (tick_seen (1 + length ts) t, (held_by ts + length t.idr, after))
     → all ≡ before_rest (ticks_seen 1 ts) (ticks_at s size 0 (known_before (1 + length ts) time (held_by ts)) xs)
-    → (s' : ℕ) × (length after ≤ s') × (all ≡ before_rest (ticks_seen 1 (ts ++ t ∷ [])) (ticks_at s' size 0 (known_before (1 + length (ts ++ t ∷ [])) t.time (held_by (ts ++ t ∷ []))) after))
+    → (s' : ℕ) × (length after ≤ s') × (all ≡ before_rest (ticks_seen 1 (ts ++ t ∷ []))
+    (ticks_at s' size 0 (known_before (1 + length (ts ++ t ∷ [])) t.time (held_by (ts ++ t ∷ []))) after))
 ticks_step ts time size s xs rest after t all e room few less read h =
     let long : length xs ≡ suc (length rest) = ap length e in
-    let more = ticks_at-more s size (1 + length ts) time (held_by ts) rest (tick_seen (1 + length ts) t) (held_by ts + length t.idr) after (omega arith) few read in
+    let more = ticks_at-more s size (1 + length ts) time (held_by ts) rest (tick_seen (1 + length ts) t) (held_by ts + length t.idr) after
+    (omega arith) few read in
     let s' = more.0 in
     let count : 1 + length ts + 1 ≡ 1 + length (ts ++ t ∷ []) = omega (arith, length-append ts (t ∷ [])) in
     let held : held_by ts + length t.idr ≡ held_by (ts ++ t ∷ []) = sym (held_by-push ts t) in
     let fits : length after ≤ s' = omega (arith, more.1) in
     let r : Read = ticks_at s' size 0 (known_before (1 + length ts + 1) t.time (held_by ts + length t.idr)) after in
-    let shown : r ≡ ticks_at s' size 0 (known_before (1 + length (ts ++ t ∷ [])) t.time (held_by (ts ++ t ∷ []))) after = rw (← count, ← held) refl in
-    (s', fits, h ∙ ap (before_rest (ticks_seen 1 ts)) (ap (λ (ys : List ℕ). ticks_at s size 0 (known_before (1 + length ts) time (held_by ts)) ys) e ∙ more.2) ∙ before_rest-push 1 ts t r ∙ ap (before_rest (ticks_seen 1 (ts ++ t ∷ []))) shown)
+    let shown : r ≡ ticks_at s' size 0 (known_before (1 + length (ts ++ t ∷ [])) t.time (held_by (ts ++ t ∷ []))) after = rw (← count, ← held) refl in (
+      s',
+      fits,
+      h ∙ ap (before_rest (ticks_seen 1 ts)) (ap (λ (ys : List ℕ). ticks_at s size 0 (known_before (1 + length ts) time (held_by ts)) ys) e ∙ more.2)
+          ∙ before_rest-push 1 ts t r ∙ ap (before_rest (ticks_seen 1 (ts ++ t ∷ []))) shown,
+    )
 
 -- a whole file, by its head and its ticks
 pub read-whole : (bytes rest : List ℕ) (d : ℕ) (r : Read) → head_at (length bytes) bytes ≡ Ok (record { audio = 0; duration = d }, rest)
@@ -170,7 +182,8 @@ small_tape bytes rest d ts room h t small =
       length = room;
       fault = ap (λ (r : Read). r.fault) e;
       audio = ap audio_of_head h;
-      ticks = subst (λ (r : Read). AllByRecursion IsSmallTick r.ticks) (sym e) (small_seen 1 ts (recursion_from_All (λ t. length t.idr ≤ most_small_unit) ts small));
+      ticks = subst (λ (r : Read). AllByRecursion IsSmallTick r.ticks) (sym e)
+          (small_seen 1 ts (recursion_from_All (λ t. length t.idr ≤ most_small_unit) ts small));
     }
 
 pub tape_read : (bytes rest : List ℕ) (d : ℕ) (ts : List Tick)
@@ -188,7 +201,8 @@ pub other_head : (bytes : List ℕ) (r : Result (Head × List ℕ) Fault) → he
 unfolding read
 other_head bytes (Ok h) e other small = other (sym (ap audio_of_head e) ∙ small.audio)
 other_head bytes (Err x) e other small =
-    let f : (read_behind (length bytes) (head_at (length bytes) bytes)).fault ≡ Some x = ap (λ (r : Result (Head × List ℕ) Fault). (read_behind (length bytes) r).fault) e in
+    let f : (read_behind (length bytes) (head_at (length bytes) bytes)).fault ≡ Some x =
+    ap (λ (r : Result (Head × List ℕ) Fault). (read_behind (length bytes) r).fault) e in
     some-none x (sym f ∙ small.fault)
 
 pub other_ticks : (bytes rest : List ℕ) (d : ℕ) → head_at (length bytes) bytes ≡ Ok (record { audio = 0; duration = d }, rest)

@@ -15,10 +15,16 @@ pub deltas_some : (n size number before held : ℕ) (r : List ℕ) → IfOk (del
 unfolding deltas_at
 deltas_some n size number before held r =
     let P : List Delta × (ℕ × List ℕ) → Type 0 = λ x. x.0 ≢ [] in
-    bind-all (number_at size 4 r) (λ named. unless (nat_le named.0 before || nat_le number named.0) (Malformed 5 (size - length r)) (Ok named.1) >>= λ known. unit_at size number held known >>= λ unit. deltas_at n size number named.0 (held + length unit.0) unit.1 >>= λ others. Ok (record { named = named.0; unit = unit.0 } ∷ others.0, others.1)) P (λ named.
-    bind-all (unless (nat_le named.0 before || nat_le number named.0) (Malformed 5 (size - length r)) (Ok named.1)) (λ known. unit_at size number held known >>= λ unit. deltas_at n size number named.0 (held + length unit.0) unit.1 >>= λ others. Ok (record { named = named.0; unit = unit.0 } ∷ others.0, others.1)) P (λ known.
-    bind-all (unit_at size number held known) (λ unit. deltas_at n size number named.0 (held + length unit.0) unit.1 >>= λ others. Ok (record { named = named.0; unit = unit.0 } ∷ others.0, others.1)) P (λ unit.
-    bind-all (deltas_at n size number named.0 (held + length unit.0) unit.1) (λ others. Ok (record { named = named.0; unit = unit.0 } ∷ others.0, others.1)) P (λ others.
+    bind-all (number_at size 4 r) (λ named. unless (nat_le named.0 before || nat_le number named.0) (Malformed 5 (size - length r))
+    (Ok named.1) >>= λ known. unit_at size number held known >>= λ unit. deltas_at n size number named.0 (held + length unit.0) unit.1 >>= λ others. Ok
+    (record { named = named.0; unit = unit.0 } ∷ others.0, others.1)) P (λ named.
+    bind-all (unless (nat_le named.0 before || nat_le number named.0) (Malformed 5 (size - length r)) (Ok named.1))
+    (λ known. unit_at size number held known >>= λ unit. deltas_at n size number named.0 (held + length unit.0) unit.1 >>= λ others. Ok
+    (record { named = named.0; unit = unit.0 } ∷ others.0, others.1)) P (λ known.
+    bind-all (unit_at size number held known) (λ unit. deltas_at n size number named.0 (held + length unit.0) unit.1 >>= λ others. Ok
+    (record { named = named.0; unit = unit.0 } ∷ others.0, others.1)) P (λ unit.
+    bind-all (deltas_at n size number named.0 (held + length unit.0) unit.1) (λ others. Ok (record { named = named.0; unit = unit.0 } ∷ others.0, others.1)) P
+    (λ others.
     λ e. cc))))
 
 -- what holds of what was read, where it is known
@@ -37,27 +43,39 @@ IsLarge t = IsSmallTick t.0 → ⊥
 -- the units of a tick behind its counts
 abbrev units_behind : ℕ → ℕ → ℕ → ℕ → ℕ → List ℕ → Result (Tick × (ℕ × List ℕ)) Fault
 units_behind size number time held count counted =
-    unit_at size number held counted >>= λ idr. deltas_at count size number 0 (held + length idr.0) idr.1 >>= λ deltas. audio_at 0 size 0 deltas.1.1 >>= λ units. Ok (record { number = number; time = time; idr = idr.0; deltas = deltas.0; audio = units.0 }, (deltas.1.0, units.1))
+    unit_at size number held counted >>= λ idr. deltas_at count size number 0 (held + length idr.0) idr.1 >>= λ deltas. audio_at 0 size 0 deltas.1.1 >>=
+    λ units. Ok (record { number = number; time = time; idr = idr.0; deltas = deltas.0; audio = units.0 }, (deltas.1.0, units.1))
 
 pub units_with_deltas : (size number time held n : ℕ) (counted : List ℕ) → IfOk (units_behind size number time held (suc n) counted) IsLarge
 units_with_deltas size number time held n counted =
-    bind-all (unit_at size number held counted) (λ idr. deltas_at (suc n) size number 0 (held + length idr.0) idr.1 >>= λ deltas. audio_at 0 size 0 deltas.1.1 >>= λ units. Ok (record { number = number; time = time; idr = idr.0; deltas = deltas.0; audio = units.0 }, (deltas.1.0, units.1))) IsLarge (λ idr.
-    bind-each (deltas_at (suc n) size number 0 (held + length idr.0) idr.1) (λ deltas. audio_at 0 size 0 deltas.1.1 >>= λ units. Ok (record { number = number; time = time; idr = idr.0; deltas = deltas.0; audio = units.0 }, (deltas.1.0, units.1))) IsLarge (λ deltas e.
-    bind-all (audio_at 0 size 0 deltas.1.1) (λ units. Ok (record { number = number; time = time; idr = idr.0; deltas = deltas.0; audio = units.0 }, (deltas.1.0, units.1))) IsLarge (λ units.
-    λ small. if_ok_at (deltas_at (suc n) size number 0 (held + length idr.0) idr.1) deltas (λ x. x.0 ≢ []) e (deltas_some n size number 0 (held + length idr.0) idr.1) small.deltas)))
+    bind-all (unit_at size number held counted) (λ idr. deltas_at (suc n) size number 0 (held + length idr.0) idr.1 >>= λ deltas. audio_at 0 size 0 deltas.1.1
+    >>= λ units. Ok (record { number = number; time = time; idr = idr.0; deltas = deltas.0; audio = units.0 }, (deltas.1.0, units.1))) IsLarge (λ idr.
+    bind-each (deltas_at (suc n) size number 0 (held + length idr.0) idr.1)
+    (λ deltas. audio_at 0 size 0 deltas.1.1 >>= λ units. Ok (
+      record { number = number; time = time; idr = idr.0; deltas = deltas.0; audio = units.0 },
+      (deltas.1.0, units.1),
+    )) IsLarge (λ deltas e.
+    bind-all (audio_at 0 size 0 deltas.1.1) (λ units. Ok (
+      record { number = number; time = time; idr = idr.0; deltas = deltas.0; audio = units.0 },
+      (deltas.1.0, units.1),
+    )) IsLarge (λ units.
+    λ small. if_ok_at (deltas_at (suc n) size number 0 (held + length idr.0) idr.1) deltas (λ x. x.0 ≢ []) e
+    (deltas_some n size number 0 (held + length idr.0) idr.1) small.deltas)))
 
 -- a count of deltas that isn't 0
 pub deltas_other : (size number time held count place : ℕ) (r : List ℕ) → count ≢ 0
     → IfOk (unless (nat_lt most_count count) (Malformed 4 place) (Ok r) >>= units_behind size number time held count) IsLarge
 deltas_other size number time held zero place r h = absurd (h refl)
 deltas_other size number time held (suc n) place r h =
-    bind-all (unless (nat_lt most_count (suc n)) (Malformed 4 place) (Ok r)) (units_behind size number time held (suc n)) IsLarge (λ counted. units_with_deltas size number time held n counted)
+    bind-all (unless (nat_lt most_count (suc n)) (Malformed 4 place) (Ok r)) (units_behind size number time held (suc n)) IsLarge
+    (λ counted. units_with_deltas size number time held n counted)
 
 -- a unit that is no small one
 pub unit_not_small : (size number time held : ℕ) (counted : List ℕ) → IsOtherUnit (unit_at size number held counted)
     → IfOk (units_behind size number time held 0 counted) IsLarge
 unfolding deltas_at audio_at
 unit_not_small size number time held counted h = not_small (unit_at size number held counted) h where
-  not_small : (u : Result (List ℕ × List ℕ) Fault) → IsOtherUnit u → IfOk (u >>= λ idr. Ok (record { number = number; time = time; idr = idr.0; deltas = []; audio = [] }, (held + length idr.0, idr.1))) IsLarge
+  not_small : (u : Result (List ℕ × List ℕ) Fault) → IsOtherUnit u
+      → IfOk (u >>= λ idr. Ok (record { number = number; time = time; idr = idr.0; deltas = []; audio = [] }, (held + length idr.0, idr.1))) IsLarge
   not_small (Ok u) g = λ small. g small.idr
   not_small (Err e) g = tt

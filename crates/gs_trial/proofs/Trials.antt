@@ -22,7 +22,8 @@ step_at steps i d h = rw add-one (drop-cons steps i d h)
 pub first_small : (s : Step) (rest : List Step) → list_all is_small_step (s ∷ rest) ≡ true → (is_small_step s ≡ true) × (list_all is_small_step rest ≡ true)
 first_small s rest e = and_parts (is_small_step s) (list_all is_small_step rest) e
 
-pub first_taken : (tape : Tape) (now : State) (s : Step) (rest : List Step) → are_taken tape now (s ∷ rest) ≡ true → (is_taken tape now s ≡ true) × (are_taken tape (after tape now s) rest ≡ true)
+pub first_taken : (tape : Tape) (now : State) (s : Step) (rest : List Step) → are_taken tape now (s ∷ rest) ≡ true
+    → (is_taken tape now s ≡ true) × (are_taken tape (after tape now s) rest ≡ true)
 unfolding are_taken
 first_taken tape now s rest e = and_parts (is_taken tape now s) (are_taken tape (after tape now s) rest) e
 
@@ -51,14 +52,17 @@ part_at a b done rest all w e some =
     (length done, omega arith, rw front w)
 
 -- some of the next piece was written behind it
-pub part_more : (a b c : Option (List ℕ)) (done piece rest all : List ℕ) → Appends a b done → AppendsPart b c piece → done ++ (piece ++ rest) ≡ all → AppendsPart a c all
+pub part_more : (a b c : Option (List ℕ)) (done piece rest all : List ℕ) → Appends a b done → AppendsPart b c piece → done ++ (piece ++ rest) ≡ all
+    → AppendsPart a c all
 part_more a b c done piece rest all w p e =
     let n = p.0 in
     let short : n < length piece = p.1 in
     let whole : done ++ (take n piece ++ (drop n piece ++ rest)) ≡ all =
-    ap (λ (l : List ℕ). done ++ l) (sym (append_assoc (take n piece) (drop n piece) rest)) ∙ ap (λ (l : List ℕ). done ++ (l ++ rest)) (take-append-drop n piece) ∙ e in
+    ap (λ (l : List ℕ). done ++ l) (sym (append_assoc (take n piece) (drop n piece) rest)) ∙ ap (λ (l : List ℕ). done ++ (l ++ rest)) (take-append-drop n piece)
+    ∙ e in
     let more : 0 < length (drop n piece ++ rest) = omega (arith, length-append (drop n piece) rest, length-drop n piece) in
-    part_at a c (done ++ take n piece) (drop n piece ++ rest) all (Appends-trans a b c done (take n piece) w p.2) (append_assoc done (take n piece) (drop n piece ++ rest) ∙ whole) more
+    part_at a c (done ++ take n piece) (drop n piece ++ rest) all (Appends-trans a b c done (take n piece) w p.2)
+    (append_assoc done (take n piece) (drop n piece ++ rest) ∙ whole) more
 
 -- what is known behind one step more
 pub record IsNext (tape : Tape) (now : State) (steps : List Step) (i : ℕ) (s : Step) (done all : List ℕ) : Type 0 where

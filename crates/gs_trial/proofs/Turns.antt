@@ -36,7 +36,8 @@ all_idr false false n c g none no_frame = ap re_entry no_frame
 
 pub choice-idr : (h : List Entry) (t : Tick) → t.deltas ≡ [] → choice h t ≡ idr
 choice-idr h t none =
-    all_idr (frames h == 0 || idr_is_owed h) (is_valid h (frames h)) (names t (last_tick h)) (record { kind = 1; reference = frames h }) (greatest_named h t (frames h))
+    all_idr (frames h == 0 || idr_is_owed h) (is_valid h (frames h)) (names t (last_tick h)) (record { kind = 1; reference = frames h })
+    (greatest_named h t (frames h))
     (names-none t (last_tick h) none) (greatest_named-none h t (frames h) none)
 
 -- ---- the turn
@@ -54,7 +55,8 @@ turn-none tape captured h (Some newest) old =
     cond-false (nat_lt (last_tick h) captured && not (has_ended h)) (Some (Sent captured ((choice h newest).kind) ((choice h newest).reference))) None
     (and_left (nat_lt (last_tick h) captured) (not (has_ended h)) (le-ltb (last_tick h) captured old))
 
-pub turn-sent : (tape : Run.Tape) (captured : ℕ) (h : List Entry) (found : Option Tick) (newest : Tick) → found ≡ Some newest → newest.deltas ≡ [] → has_ended h ≡ false
+pub turn-sent : (tape : Run.Tape) (captured : ℕ) (h : List Entry) (found : Option Tick) (newest : Tick) → found ≡ Some newest → newest.deltas ≡ []
+    → has_ended h ≡ false
     → last_tick h < captured → turn tape captured h found ≡ Some (Sent captured 2 0)
 turn-sent tape captured h found newest there none goes_on new =
     ap (turn tape captured h) there
@@ -64,7 +66,8 @@ turn-sent tape captured h found newest there none goes_on new =
 
 -- ---- ticks and units
 
-seen_from : (first k : ℕ) (ticks : List SmallTick) (t : SmallTick) → slice_get ticks k ≡ Some t → slice_get (ticks_seen first ticks) k ≡ Some (tick_seen (first + k) t)
+seen_from : (first k : ℕ) (ticks : List SmallTick) (t : SmallTick) → slice_get ticks k ≡ Some t
+    → slice_get (ticks_seen first ticks) k ≡ Some (tick_seen (first + k) t)
 seen_from first k [] t there = absurd (none-some t there)
 seen_from first zero (x ∷ ticks) t there =
     ap (λ (s : SmallTick). Some (tick_seen first s)) (same_Some x t there) ∙ ap (λ (n : ℕ). Some (tick_seen n t)) (omega arith)

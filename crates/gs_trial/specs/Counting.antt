@@ -22,17 +22,19 @@ pub record CountsStandFor (counts : Counts) (tape : Tape) (state : State) : Type
 -- whatever run the counts stood for, they stand for it behind a turn of the host
 abbrev pub CountsTurn : Counts → Counts → Type 0
 CountsTurn old new =
-    (tape : Tape) (state : State) → AllByRecursion IsSmallTick tape.ticks → old.captured ≤ length tape.ticks → CountsStandFor old tape state
+    (tape : Tape) (state : State) → AllByRecursion IsSmallTick tape.ticks → old.captured ≤ length tape.ticks
+    → CountsStandFor old tape state
     → CountsStandFor new tape (after tape state (Send 1))
 
 -- the answer is whether the step is one of the first session that the run takes, and where it is the
 -- counts stand for the run behind it
-pub record IsCounted (new : Counts) (tape : Tape) (state : State) (step : Step) (taken : Bool) : Type 0 where
+pub record IsStepCounted (new : Counts) (tape : Tape) (state : State) (step : Step) (taken : Bool) : Type 0 where
   pub answer : taken ≡ (is_small_step step && is_taken tape state step)
   pub stands : taken ≡ true → CountsStandFor new tape (after tape state step)
 
 -- whatever run of as many small ticks the counts stood for
 abbrev pub CountsStep : Counts → Counts → ℕ → Step → Bool → Type 0
 CountsStep old new ticks step taken =
-    (tape : Tape) (state : State) → AllByRecursion IsSmallTick tape.ticks → length tape.ticks ≡ ticks → CountsStandFor old tape state
-    → IsCounted new tape state step taken
+    (tape : Tape) (state : State) → AllByRecursion IsSmallTick tape.ticks → length tape.ticks ≡ ticks
+    → CountsStandFor old tape state
+    → IsStepCounted new tape state step taken

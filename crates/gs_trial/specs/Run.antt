@@ -2,6 +2,7 @@
 -- delivered, and the text of all steps. Histories and deliveries have the newest member first.
 use Rattle.std.specs.Prelude.{ℕ, zero, suc, ◌+◌, ◌-◌, Bool, false, ◌&&◌, not, List, [], ◌∷◌, ◌++◌, length, drop, Option, Some, None, is_none, slice_get, nat_lt, nat_le, if◌then◌else◌}
 use Rattle.std.specs.List.{flat_map}
+use Rattle.gs_rtp.specs.Limits.{least_packet, most_packet, most_percentage, most_minimum}
 use Rattle.gs_rtp.specs.Stream.{StreamSettings}
 use Rattle.gs_tape.specs.Tick.{Tick, tick_numbered}
 use Rattle.gs_tape.specs.Reading.{ticks_of, first_fault, audio_length, audio_duration}
@@ -52,7 +53,10 @@ replaced (old ∷ sessions) zero session = session ∷ sessions
 replaced (old ∷ sessions) (suc n) session = old ∷ replaced sessions n session
 
 abbrev pub with_session : State → ℕ → Session → State
-with_session state number session = record { captured = state.captured; sessions = replaced state.sessions (number - 1) session }
+with_session state number session = record {
+  captured = state.captured;
+  sessions = replaced state.sessions (number - 1) session;
+}
 
 -- what a session opened by these numbers is: sixty frames a second, and the tape's audio
 abbrev pub opened : Tape → State → ℕ → ℕ → ℕ → Session
@@ -89,7 +93,8 @@ may_deliver tape (Some session) k = is_nameable (stream_of tape session) k
 abbrev pub is_taken : Tape → State → Step → Bool
 is_taken tape state (step.Session packet percentage minimum) =
     nat_lt (length state.sessions) most_sessions
-    && nat_le 1024 packet && nat_le packet 1440 && nat_le percentage 100 && nat_le minimum 2
+    && nat_le least_packet packet && nat_le packet most_packet
+    && nat_le percentage most_percentage && nat_le minimum most_minimum
 is_taken tape state step.Cap = nat_lt state.captured (length tape.ticks)
 is_taken tape state (step.Send session) = is_open state session
 is_taken tape state (step.Video session k) = may_deliver tape (session_numbered state session) k
@@ -108,11 +113,19 @@ turn_of tape state session = turn tape state.captured session.history (tick_numb
 
 abbrev pub with_entry : Session → Option Entry → Session
 with_entry session None = session
-with_entry session (Some entry) = record { settings = session.settings; history = entry ∷ session.history; came = session.came }
+with_entry session (Some entry) = record {
+  settings = session.settings;
+  history = entry ∷ session.history;
+  came = session.came;
+}
 
 abbrev pub with_datagram : Session → Option (List ℕ) → Session
 with_datagram session None = session
-with_datagram session (Some datagram) = record { settings = session.settings; history = session.history; came = datagram ∷ session.came }
+with_datagram session (Some datagram) = record {
+  settings = session.settings;
+  history = session.history;
+  came = datagram ∷ session.came;
+}
 
 abbrev pub sent_by : Tape → State → Option Session → Option Session
 sent_by tape state None = None
@@ -169,7 +182,8 @@ step_text tape state (step.Video session k) = video_lines tape session k (sessio
 
 abbrev pub total_of : ℕ → Session → List ℕ
 total_of number session =
-    total_line number (frames session.history) (length (narrow_handed session.settings session.came)) (length (narrow_asks session.settings session.came)) 0 0
+    total_line number (frames session.history) (length (narrow_handed session.settings session.came))
+    (length (narrow_asks session.settings session.came)) 0 0
 
 abbrev pub totals_from : ℕ → List Session → List ℕ
 totals_from number [] = []

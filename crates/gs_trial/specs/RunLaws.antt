@@ -10,8 +10,10 @@ use Rattle.gs_trial.specs.Trial.{IsPairedSession, HandsCaptured, HandsReferences
 -- it holds of each session behind all steps
 abbrev pub OfEachSession : (Tape → Session → Type 0) → Type 0
 OfEachSession Holds =
-    (bytes : List ℕ) (steps : List Step) → All (λ b. b < 2 ^ 8) bytes → (audio_duration bytes ≡ 5) ⊎ (audio_duration bytes ≡ 10)
-    → are_taken (tape_of bytes) start steps ≡ true → AllByRecursion (Holds (tape_of bytes)) (behind (tape_of bytes) start steps).sessions
+    (bytes : List ℕ) (steps : List Step) → All (λ b. b < 2 ^ 8) bytes
+    → (audio_duration bytes ≡ 5) ⊎ (audio_duration bytes ≡ 10)
+    → are_taken (tape_of bytes) start steps ≡ true
+    → AllByRecursion (Holds (tape_of bytes)) (behind (tape_of bytes) start steps).sessions
 
 -- each session is paired
 abbrev pub RunsArePaired : Type 0

@@ -24,11 +24,11 @@ abbrev pub Lacks : ℕ → List ℕ → Type 0
 Lacks byte text = AllByRecursion (λ b. b ≢ byte) text
 
 -- numbers of a line are below 2 ^ 32
-abbrev pub IsStep : Step → Type 0
-IsStep (Session packet percentage minimum) = (packet < 2 ^ 32) × (percentage < 2 ^ 32) × (minimum < 2 ^ 32)
-IsStep Cap = Unit {0}
-IsStep (Send session) = session < 2 ^ 32
-IsStep (Video session k) = (session < 2 ^ 32) × (k < 2 ^ 32)
+abbrev pub HasStepNumbers : Step → Type 0
+HasStepNumbers (Session packet percentage minimum) = (packet < 2 ^ 32) × (percentage < 2 ^ 32) × (minimum < 2 ^ 32)
+HasStepNumbers Cap = Unit {0}
+HasStepNumbers (Send session) = session < 2 ^ 32
+HasStepNumbers (Video session k) = (session < 2 ^ 32) × (k < 2 ^ 32)
 
 -- a byte in front of the first line
 abbrev pub onto_line : ℕ → List (List ℕ) → List (List ℕ)
@@ -56,7 +56,7 @@ most_line = 64
 pub record IsSchedule (bytes : List ℕ) (steps : List Step) : Type 0 where
   pub lines : filter is_busy (lines_of bytes) ≡ map line_of steps
   pub short : AllByRecursion (λ line. length line ≤ most_line) (lines_of bytes)
-  pub numbers : AllByRecursion IsStep steps
+  pub numbers : AllByRecursion HasStepNumbers steps
 
 -- and none of its lines does nothing
 pub record IsBusySchedule (bytes : List ℕ) (steps : List Step) : Type 0 where

@@ -1,7 +1,8 @@
 -- Cited by private contracts alone: what the program keeps of a run, and which run it stands for.
 use Rattle.std.specs.Prelude.{ℕ, ◌≡◌, ◌⊎◌, ◌+◌, ◌≤◌, true, false, Bool, ◌&&◌, ◌==◌, nat_le, if◌then◌else◌, Some, None, Result, IfOk, List, [], ◌∷◌, ◌++◌, length, map, vec_len}
 use Rattle.std.specs.List.{All, AllByRecursion, list_all}
-use Rattle.gs_rtp.specs.Stream.{StreamSettings, numbers_of, AreWithinLimits}
+use Rattle.gs_rtp.specs.Limits.{least_packet, most_packet, most_frame}
+use Rattle.gs_rtp.specs.Stream.{StreamSettings, numbers_of, AreSettingsWithinLimits}
 use Rattle.gs_tape.specs.Tick.{Tick, tick_numbered}
 use Rattle.gs_tape.specs.Reading.{Read, Fault, Before, Head}
 use Rattle.gs_refs.specs.declared.entry.Entry.{Entry}
@@ -59,13 +60,14 @@ AreOtherTicks read = read.fault ≡ None → AllByRecursion IsSmallTick read.tic
 
 -- a session without parity, within the limits
 pub record IsBare (settings : StreamSettings) : Type 0 where
-  pub limits : AreWithinLimits settings
+  pub limits : AreSettingsWithinLimits settings
   pub percentage : settings.percentage ≡ 0
   pub minimum : settings.minimum ≡ 0
 
 -- the step opens a session without parity within the limits
 abbrev pub opens : Step → Bool
-opens (step.Session packet percentage minimum) = nat_le 1024 packet && nat_le packet 1440 && percentage == 0 && minimum == 0
+opens (step.Session packet percentage minimum) =
+    nat_le least_packet packet && nat_le packet most_packet && percentage == 0 && minimum == 0
 opens step.Cap = false
 opens (step.Send session) = false
 opens (step.Video session k) = false
@@ -73,10 +75,28 @@ opens (step.Video session k) = false
 -- the settings of the session that the step opens, for audio units of this duration
 abbrev pub first_settings : ℕ → Step → StreamSettings
 first_settings duration (step.Session packet percentage minimum) =
-    record { packet = packet; percentage = percentage; minimum = minimum; fps = 60; duration = duration; audio = 0; ssrc = 1 }
-first_settings duration step.Cap = record { packet = 0; percentage = 0; minimum = 0; fps = 60; duration = duration; audio = 0; ssrc = 1 }
-first_settings duration (step.Send session) = record { packet = 0; percentage = 0; minimum = 0; fps = 60; duration = duration; audio = 0; ssrc = 1 }
-first_settings duration (step.Video session k) = record { packet = 0; percentage = 0; minimum = 0; fps = 60; duration = duration; audio = 0; ssrc = 1 }
+    record {
+      packet = packet;
+      percentage = percentage;
+      minimum = minimum;
+      fps = 60;
+      duration = duration;
+      audio = 0;
+      ssrc = 1;
+    }
+first_settings duration step.Cap = record {
+  packet = 0;
+  percentage = 0;
+  minimum = 0;
+  fps = 60;
+  duration = duration;
+  audio = 0;
+  ssrc = 1;
+}
+first_settings duration (step.Send session) = record
+    { packet = 0; percentage = 0; minimum = 0; fps = 60; duration = duration; audio = 0; ssrc = 1 }
+first_settings duration (step.Video session k) =
+    record { packet = 0; percentage = 0; minimum = 0; fps = 60; duration = duration; audio = 0; ssrc = 1 }
 
 -- a session of these settings in which nothing happened yet
 abbrev pub fresh_state : StreamSettings → State
@@ -104,13 +124,15 @@ behind_turn sent number h = if sent then Sent number 2 0 ∷ h else h
 -- whatever history the host stood for
 abbrev pub Sends : Host → Host → ℕ → SmallTick → Bool → Type 0
 Sends old new number tick sent =
-    (ticks : List Tick) (settings : StreamSettings) (h : List Entry) → HostStandsFor ticks settings old h → IsBare settings
-    → tick_numbered ticks number ≡ Some (tick_seen number tick) → HostStandsFor ticks settings new (behind_turn sent number h)
+    (ticks : List Tick) (settings : StreamSettings) (h : List Entry) → HostStandsFor ticks settings old h
+    → IsBare settings
+    → tick_numbered ticks number ≡ Some (tick_seen number tick)
+    → HostStandsFor ticks settings new (behind_turn sent number h)
 
 -- the one datagram of an IDR frame with this unit
 pub record IsDatagramOf (settings : StreamSettings) (frame : ℕ) (unit datagram : List ℕ) : Type 0 where
   pub frame_least : 1 ≤ frame
-  pub frame_greatest : frame ≤ 1048576
+  pub frame_greatest : frame ≤ most_frame
   pub fits : FitsOnePacket settings unit
   pub count : ℕ
   pub time : ℕ
@@ -131,26 +153,31 @@ pub record MayTake (datagram : List ℕ) : Type 0 where
   pub sent : IsDatagramOf settings frame unit datagram
 
 -- the client stands for what came, and nothing is told of the datagram
-pub record IsPassed (settings : StreamSettings) (client : Client) (datagram : List ℕ) (came : List (List ℕ)) : Type 0 where
+pub record IsPassed (settings : StreamSettings) (client : Client) (datagram : List ℕ)
+    (came : List (List ℕ)) : Type 0 where
   pub stands : ClientStandsFor settings client (datagram ∷ came)
   pub handed_after : narrow_handed settings (datagram ∷ came) ≡ narrow_handed settings came
   pub asked_after : narrow_asks settings (datagram ∷ came) ≡ narrow_asks settings came
 
 -- the client stands for what came, the frame is handed over, and the lost ones are asked for
-pub record IsHanded (settings : StreamSettings) (client : Client) (datagram : List ℕ) (came : List (List ℕ)) (frame : ℕ) (lost : List Range) (unit : List ℕ) : Type 0 where
+pub record IsHanded (settings : StreamSettings) (client : Client) (datagram : List ℕ) (came : List (List ℕ)) (frame : ℕ)
+    (lost : List Range) (unit : List ℕ) : Type 0 where
   pub stands : ClientStandsFor settings client (datagram ∷ came)
-  pub handed_after : narrow_handed settings (datagram ∷ came) ≡ narrow_handed settings came ++ record { frame = frame; kind = 2; unit = unit } ∷ []
+  pub handed_after : narrow_handed settings (datagram ∷ came) ≡ narrow_handed settings came
+      ++ record { frame = frame; kind = 2; unit = unit } ∷ []
   pub asked_after : narrow_asks settings (datagram ∷ came) ≡ narrow_asks settings came ++ lost
 
 -- whatever the client stood for, and whichever frame the datagram is of
 abbrev pub Passes : Client → Client → List ℕ → Type 0
 Passes old new datagram =
-    (settings : StreamSettings) (came : List (List ℕ)) (frame : ℕ) (unit : List ℕ) → ClientStandsFor settings old came → IsDatagramOf settings frame unit datagram
+    (settings : StreamSettings) (came : List (List ℕ)) (frame : ℕ) (unit : List ℕ) → ClientStandsFor settings old came
+    → IsDatagramOf settings frame unit datagram
     → IsPassed settings new datagram came
 
 abbrev pub Hands : Client → Client → List ℕ → ℕ → List Range → List ℕ → Type 0
 Hands old new datagram told_frame lost told_unit =
-    (settings : StreamSettings) (came : List (List ℕ)) (frame : ℕ) (unit : List ℕ) → ClientStandsFor settings old came → IsDatagramOf settings frame unit datagram
+    (settings : StreamSettings) (came : List (List ℕ)) (frame : ℕ) (unit : List ℕ) → ClientStandsFor settings old came
+    → IsDatagramOf settings frame unit datagram
     → IsHanded settings new datagram came told_frame lost told_unit × (told_frame ≡ frame) × (told_unit ≡ unit)
 
 -- The session that the program keeps is the run's only one, over these ticks.
@@ -180,7 +207,8 @@ pub record MayDeliver (session : Session) (k : ℕ) : Type 0 where
   pub may : MayAct ticks session (Video 1 k)
 
 -- the session stands for what the run has behind the step, and the text grew by the step's
-pub record IsActed (ticks : List SmallTick) (session : Session) (tape : Tape) (state : State) (step : Step) (text_old text_new : List ℕ) : Type 0 where
+pub record IsActed (ticks : List SmallTick) (session : Session) (tape : Tape) (state : State) (step : Step)
+    (text_old text_new : List ℕ) : Type 0 where
   pub stands : StandsFor ticks session tape (after tape state step)
   pub text : text_new ≡ text_old ++ step_text tape state step
 

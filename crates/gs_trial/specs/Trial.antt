@@ -3,6 +3,7 @@ use Rattle.std.specs.Prelude.{ℕ, ◌≡◌, ◌+◌, ◌≤◌, Bool, false, L
 use Rattle.std.specs.Io.KnownBytes.{Appends, Consumes, IsAtEnd}
 use Rattle.std.specs.List.{All, AllByRecursion}
 use Rattle.gs_bytes.specs.Outside.{AppendsPart, SetsFlag}
+use Rattle.gs_bytes.specs.Told.{Told}
 use Rattle.gs_refs.specs.History.{has_ended}
 use Rattle.gs_frames.specs.Client.{datagrams}
 use Rattle.gs_frames.specs.Narrow.{narrow, narrow_handed}
@@ -12,15 +13,6 @@ use Rattle.gs_pair.specs.References.{ReferencesHeld}
 use Rattle.gs_trial.specs.declared.step.Step.{Step}
 use Rattle.gs_trial.specs.Run.{Tape, Session, State, start, tape_of, after, text_of}
 use Rattle.gs_trial.specs.Forms.{most_input, IsBuilt}
-
--- what an object that is read tells: the bytes left, those read, whether a read met the end
-pub record Told : Type 0 where
-  pub left : Option (List ℕ)
-  pub taken : Option (List ℕ)
-  pub met_end : Option Bool
-
-abbrev pub told : {X : Type 0} → (X → Option (List ℕ)) → (X → Option (List ℕ)) → (X → Option Bool) → X → Told
-told left taken met_end object = record { left = left object; taken = taken object; met_end = met_end object }
 
 -- These bytes were read of an input: all that there were, unless they are too many to be run.
 pub record WasRead (before now : Told) (bytes : List ℕ) : Type 0 where
@@ -52,11 +44,13 @@ HandsCaptured tape session = All (IsSentFrame tape.ticks session.history) (narro
 
 -- and each of them that refers to another was handed behind it
 abbrev pub HandsReferences : Tape → Session → Type 0
-HandsReferences tape session = ReferencesHeld session.history (map (λ f. f.frame) (narrow_handed session.settings session.came))
+HandsReferences tape session = ReferencesHeld session.history
+    (map (λ f. f.frame) (narrow_handed session.settings session.came))
 
 -- Both inputs were read, and what they hold is run today; behind all steps each session is paired, and its
 -- client was handed captured units alone, each behind the one that it refers to.
-pub record IsRun (tape_before tape_now schedule_before schedule_now : Told) (tape schedule : List ℕ) (steps : List Step) : Type 0 where
+pub record IsTrialRun (tape_before tape_now schedule_before schedule_now : Told) (tape schedule : List ℕ)
+    (steps : List Step) : Type 0 where
   pub tape_read : WasRead tape_before tape_now tape
   pub schedule_read : WasRead schedule_before schedule_now schedule
   pub built : IsBuilt tape schedule steps
@@ -68,14 +62,14 @@ pub record IsRun (tape_before tape_now schedule_before schedule_now : Told) (tap
 abbrev pub WritesText : Told → Told → Told → Told → Option (List ℕ) → Option (List ℕ) → Type 0
 WritesText tape_before tape_now schedule_before schedule_now written_before written_now =
     (tape : List ℕ) × (schedule : List ℕ) × (steps : List Step)
-    × IsRun tape_before tape_now schedule_before schedule_now tape schedule steps
+    × IsTrialRun tape_before tape_now schedule_before schedule_now tape schedule steps
     × Appends written_before written_now (text_of tape steps)
 
 -- a part of it, from its front
 abbrev pub WritesPart : Told → Told → Told → Told → Option (List ℕ) → Option (List ℕ) → Type 0
 WritesPart tape_before tape_now schedule_before schedule_now written_before written_now =
     (tape : List ℕ) × (schedule : List ℕ) × (steps : List Step)
-    × IsRun tape_before tape_now schedule_before schedule_now tape schedule steps
+    × IsTrialRun tape_before tape_now schedule_before schedule_now tape schedule steps
     × AppendsPart written_before written_now (text_of tape steps)
 
 -- both inputs were read, and what they hold isn't run today

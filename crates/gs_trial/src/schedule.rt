@@ -2,7 +2,7 @@
 
 ghost use Rattle.std.specs.Prelude.{◌≡◌, ◌≢◌, ℕ, ◌+◌, ◌<◌, ◌^◌, ◌∷◌, ◌++◌, IfOk, IfSome, IfNone, List, codes, decimal, length, map};
 ghost use Rattle.gs_trial.specs.declared.step.Step.{Step as StepOf};
-ghost use Rattle.gs_trial.specs.Schedule.{Lacks, IsBusySchedule, IsStep, line_of, lines_of};
+ghost use Rattle.gs_trial.specs.Schedule.{Lacks, IsBusySchedule, HasStepNumbers, line_of, lines_of};
 
 use crate::step::Step;
 use gs_bytes::{OutOfMemory, parse_number};
@@ -27,7 +27,7 @@ fn split_once(text: &[u8], byte: u8) -> Option<(&[u8], &[u8])>
 }
 
 fn session_of(rest: &[u8]) -> Option<Step>
-    ensures some { IfSome result (λ s. (codes "session" ++ 32 ∷ rest.now ≡ line_of s) × IsStep s) }
+    ensures some { IfSome result (λ s. (codes "session" ++ 32 ∷ rest.now ≡ line_of s) × HasStepNumbers s) }
     ensures none { IfNone result ((packet percentage minimum : ℕ) → packet < 2 ^ 32 → percentage < 2 ^ 32 → minimum < 2 ^ 32
         → rest.now ≢ decimal packet ++ 32 ∷ (decimal percentage ++ 32 ∷ decimal minimum)) }
 {
@@ -44,7 +44,7 @@ fn session_of(rest: &[u8]) -> Option<Step>
 }
 
 fn video_of(rest: &[u8]) -> Option<Step>
-    ensures some { IfSome result (λ s. (codes "video" ++ 32 ∷ rest.now ≡ line_of s) × IsStep s) }
+    ensures some { IfSome result (λ s. (codes "video" ++ 32 ∷ rest.now ≡ line_of s) × HasStepNumbers s) }
     ensures none { IfNone result ((session k : ℕ) → session < 2 ^ 32 → k < 2 ^ 32
         → rest.now ≢ decimal session ++ 32 ∷ decimal k) }
 {
@@ -55,7 +55,7 @@ fn video_of(rest: &[u8]) -> Option<Step>
 }
 
 fn send_of(rest: &[u8]) -> Option<Step>
-    ensures some { IfSome result (λ s. (codes "send" ++ 32 ∷ rest.now ≡ line_of s) × IsStep s) }
+    ensures some { IfSome result (λ s. (codes "send" ++ 32 ∷ rest.now ≡ line_of s) × HasStepNumbers s) }
     ensures none { IfNone result ((session : ℕ) → session < 2 ^ 32 → rest.now ≢ decimal session) }
 {
     let session = number_of(rest)?;
@@ -64,8 +64,8 @@ fn send_of(rest: &[u8]) -> Option<Step>
 
 /// The step of a line, without its newline.
 pub fn step_of(line: &[u8]) -> Option<Step>
-    ensures some { IfSome result (λ s. (line.now ≡ line_of s) × IsStep s) }
-    ensures none { IfNone result ((s : StepOf) → IsStep s → line.now ≢ line_of s) }
+    ensures some { IfSome result (λ s. (line.now ≡ line_of s) × HasStepNumbers s) }
+    ensures none { IfNone result ((s : StepOf) → HasStepNumbers s → line.now ≢ line_of s) }
 {
     if line == b"cap".as_slice() {
         return Some(Step::Cap);

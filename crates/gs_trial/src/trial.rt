@@ -3,7 +3,8 @@
 ghost use Rattle.std.specs.Prelude.{◌≡◌, ◌≢◌, ◌↔◌, ◌⊎◌, ◌<◌, ◌≤◌, ◌+◌, ◌^◌, ◌&&◌, ℕ, true, Some, None, List, IsSome, IfOk, IfSome, IfNone, OnOk, OnErr, IsErrOf, map, length, string_bytes};
 ghost use Rattle.std.specs.List.{All};
 ghost use Rattle.std.specs.Io.KnownBytes.{Keeps, Appends};
-ghost use Rattle.gs_bytes.specs.Outside.{Rose, AppendsPart, TakesUpTo};
+ghost use Rattle.gs_bytes.specs.Outside.{Rose, AppendsPart};
+ghost use Rattle.gs_bytes.specs.Told.{told, TakesUpTo};
 ghost use Rattle.gs_rtp.specs.Stream.{numbers_of};
 ghost use Rattle.gs_tape.specs.Reading.{first_fault};
 ghost use Rattle.gs_trial.specs.declared.step.Step.{Step as StepOf};
@@ -11,7 +12,7 @@ ghost use Rattle.gs_trial.specs.Words.{first_misfit};
 ghost use Rattle.gs_trial.specs.Forms.{most_input, most_small_unit, are_small_steps, are_taken, IsBuilt};
 ghost use Rattle.gs_trial.specs.Run.{start, tape_of, text_from};
 ghost use Rattle.gs_trial.specs.Standing.{seen, MayRun, MayRunPlan, session_text};
-ghost use Rattle.gs_trial.specs.Trial.{told, ReadsOther, ReadsWhole, WritesText, WritesPart};
+ghost use Rattle.gs_trial.specs.Trial.{ReadsOther, ReadsWhole, WritesText, WritesPart};
 
 use crate::form::{are_all_taken, settings_of};
 use crate::output::{push_done, push_total};
@@ -150,31 +151,31 @@ pub fn trial_main<S: Source, T: Source, K: Sink>(
     ensures write_counted { K.faults out.new ≢ K.faults out.old → result ≡ TrialStatus.WriteFault }
     ensures tape_first { result ≡ TrialStatus.TapeFault → schedule.new ≡ schedule.old }
     ensures tape_read { result ≡ TrialStatus.ScheduleFault → ReadsWhole
-        (told S.left S.taken S.met_end tape.old) (told S.left S.taken S.met_end tape.new) }
+        (told S.Outside tape.old) (told S.Outside tape.new) }
 
     // What isn't run today was read, and is no capture file and schedule that is.
     ensures later { result ≡ TrialStatus.Later → ReadsOther
-        (told S.left S.taken S.met_end tape.old) (told S.left S.taken S.met_end tape.new)
-        (told T.left T.taken T.met_end schedule.old) (told T.left T.taken T.met_end schedule.new) }
+        (told S.Outside tape.old) (told S.Outside tape.new)
+        (told T.Outside schedule.old) (told T.Outside schedule.new) }
 
     // What is run was read, and its text was written: the whole of it at `Ok`. The text shows neither the
     // timestamps of datagrams nor the frame rate of the settings: a clause on the datagrams that were sent is to.
     ensures ok { result ≡ TrialStatus.Ok → WritesText
-        (told S.left S.taken S.met_end tape.old) (told S.left S.taken S.met_end tape.new)
-        (told T.left T.taken T.met_end schedule.old) (told T.left T.taken T.met_end schedule.new)
+        (told S.Outside tape.old) (told S.Outside tape.new)
+        (told T.Outside schedule.old) (told T.Outside schedule.new)
         (K.written out.old) (K.written out.new) }
     ensures write_part { result ≡ TrialStatus.WriteFault → WritesPart
-        (told S.left S.taken S.met_end tape.old) (told S.left S.taken S.met_end tape.new)
-        (told T.left T.taken T.met_end schedule.old) (told T.left T.taken T.met_end schedule.new)
+        (told S.Outside tape.old) (told S.Outside tape.new)
+        (told T.Outside schedule.old) (told T.Outside schedule.new)
         (K.written out.old) (K.written out.new) }
     ensures memory { result ≡ TrialStatus.OutOfMemory → Keeps (K.written out.old) (K.written out.new) ⊎ WritesPart
-        (told S.left S.taken S.met_end tape.old) (told S.left S.taken S.met_end tape.new)
-        (told T.left T.taken T.met_end schedule.old) (told T.left T.taken T.met_end schedule.new)
+        (told S.Outside tape.old) (told S.Outside tape.new)
+        (told T.Outside schedule.old) (told T.Outside schedule.new)
         (K.written out.old) (K.written out.new) }
 
     // Whatever the answer, reading stops behind the bound of either input.
-    ensures tape_bound { TakesUpTo (most_input + 1) (S.left tape.old) (S.left tape.new) (S.taken tape.old) (S.taken tape.new) }
-    ensures schedule_bound { TakesUpTo (most_input + 1) (T.left schedule.old) (T.left schedule.new) (T.taken schedule.old) (T.taken schedule.new) }
+    ensures tape_bound { TakesUpTo (most_input + 1) (told S.Outside tape.old) (told S.Outside tape.new) }
+    ensures schedule_bound { TakesUpTo (most_input + 1) (told T.Outside schedule.old) (told T.Outside schedule.new) }
 
     // Every other answer comes before the output is touched, and faulty words before anything is.
     ensures usage_reads_nothing { IsSome (first_misfit (map string_bytes words.now)) → (tape.new ≡ tape.old) × (schedule.new ≡ schedule.old) }

@@ -6,7 +6,8 @@
 //! the contract of `gs_trial::trial_main`; this crate only opens the files and prints.
 #![tactic(auto)]
 
-ghost use Rattle.std.specs.Prelude.{◌≡◌, ◌⊎◌, ◌↔◌, ℕ, Some, IfErr, map, string_bytes};
+ghost use Rattle.std.specs.declared.io.ErrorKind.TheVariants as kinds;
+ghost use Rattle.std.specs.Prelude.{◌≡◌, ◌≢◌, ◌⊎◌, ◌↔◌, ℕ, Some, IfErr, drop, map, string_bytes};
 ghost use Rattle.gs_trial.specs.Words.{first_misfit};
 ghost use Rattle.gstrial.specs.Program.{exit_status as status_of, tape_name as tape_named, schedule_name as schedule_named, word_at as word_of};
 
@@ -59,22 +60,51 @@ fn schedule_name(words: &[String]) -> &str
     word_at(words, SCHEDULE_PLACE)
 }
 
-/// The words of the command. One that isn't text doesn't fit at its place; the system gives all
-/// words or none, so this is said of the first.
-fn command_words(rt: &HostRuntime) -> Result<Vec<String>, TrialStatus>
-    ensures { IfErr result (λ status. (status ≡ TrialStatus.Usage 1) ⊎ (status ≡ TrialStatus.OutOfMemory)) }
+/// The words of the command among the program's arguments, of which the first is its own name.
+fn behind_name(arguments: Vec<String>) -> Vec<String>
+    ensures { result.items ≡ drop 1 arguments.items }
 {
-    match env::args(rt) {
-        Ok(args) => match args.skip(1).collect::<Vec<String>>(rt.alloc()) {
-            Ok(words) => Ok(words),
-            Err(_) => Err(TrialStatus::OutOfMemory),
-        },
-        Err(error) if error.kind() == io::ErrorKind::OutOfMemory => Err(TrialStatus::OutOfMemory),
-        Err(_) => Err(TrialStatus::Usage { word: 1 }),
+    let mut words = arguments;
+    if !words.is_empty() {
+        let _name = words.remove(0);
+    }
+    words
+}
+
+/// The answer where the system gives no words: memory was wanting, or one of them isn't text. Such
+/// a word doesn't fit at its place, and since the system gives all words or none, the first is
+/// named.
+fn refused(kind: io::ErrorKind) -> TrialStatus
+    ensures memory { kind ≡ kinds.OutOfMemory → result ≡ TrialStatus.OutOfMemory }
+    ensures usage { kind ≢ kinds.OutOfMemory → result ≡ TrialStatus.Usage 1 }
+{
+    if kind == io::ErrorKind::OutOfMemory {
+        TrialStatus::OutOfMemory
+    } else {
+        TrialStatus::Usage { word: 1 }
     }
 }
 
-/// Runs the trial that the words name.
+/// The words of the command, which are the arguments that the system gives behind the program's
+/// name. Where it gives none for want of memory, or they can't be kept, the answer is
+/// `OutOfMemory`; where one isn't text, `Usage` of the first.
+fn command_words(rt: &HostRuntime) -> Result<Vec<String>, TrialStatus>
+    ensures { IfErr result (λ status. (status ≡ TrialStatus.Usage 1) ⊎ (status ≡ TrialStatus.OutOfMemory)) }
+{
+    let arguments = match env::args(rt) {
+        Ok(arguments) => arguments,
+        Err(error) => return Err(refused(error.kind())),
+    };
+    match arguments.collect::<Vec<String>>(rt.alloc()) {
+        Ok(arguments) => Ok(behind_name(arguments)),
+        Err(_) => Err(TrialStatus::OutOfMemory),
+    }
+}
+
+/// Runs the trial that the words name, and answers what `trial_main` answers of the capture file and
+/// the schedule that they name and of standard output. `Usage` comes exactly where a word doesn't fit
+/// or is missing. What a file holds and whether a call of the system fails no contract can say, so the
+/// other answers are those of `trial_main`'s contract over what these objects tell.
 fn run(rt: &HostRuntime, words: &[String]) -> TrialStatus
     ensures usage { (word : ℕ) → (result ≡ TrialStatus.Usage word) ↔ (first_misfit (map string_bytes words.now) ≡ Some word) }
 {

@@ -13,25 +13,31 @@ returns-in_err-packet-clause-none c = if_none (Other c.args.rest.now) _
 pub returns-in_err-percentage-clause-none : goal.returns-in_err-percentage-clause-none
 returns-in_err-percentage-clause-none c = if_none (Other c.args.rest.now) _
     (λ p q m hp hq hm e.
-    let a = split_unique c.in_ok-packet.packet.now c.in_ok-packet.rest.now (decimal p) (decimal q ++ 32 ∷ decimal m) c.in_ok-packet.ensures.first (decimal_no_space p (omega arith)) (sym c.in_ok-packet.ensures.some ∙ e) in
+    let a = split_unique c.in_ok-packet.packet.now c.in_ok-packet.rest.now (decimal p) (decimal q ++ 32 ∷ decimal m) c.in_ok-packet.ensures.first
+    (decimal_no_space p (omega arith)) (sym c.in_ok-packet.ensures.some ∙ e) in
     has_space (decimal q) (decimal m) c.in_ok-packet.rest.now c.in_err-percentage.ensures.none (sym a.1))
 
 pub returns-in_err-packet-2-clause-none : goal.returns-in_err-packet-2-clause-none
 returns-in_err-packet-2-clause-none c = if_none (Other c.args.rest.now) _
     (λ p q m hp hq hm e.
-    let a = split_unique c.in_ok-packet.packet.now c.in_ok-packet.rest.now (decimal p) (decimal q ++ 32 ∷ decimal m) c.in_ok-packet.ensures.first (decimal_no_space p (omega arith)) (sym c.in_ok-packet.ensures.some ∙ e) in
+    let a = split_unique c.in_ok-packet.packet.now c.in_ok-packet.rest.now (decimal p) (decimal q ++ 32 ∷ decimal m) c.in_ok-packet.ensures.first
+    (decimal_no_space p (omega arith)) (sym c.in_ok-packet.ensures.some ∙ e) in
     c.in_err-packet-2.ensures.none p hp a.0)
 
 pub returns-in_err-percentage-2-clause-none : goal.returns-in_err-percentage-2-clause-none
 returns-in_err-percentage-2-clause-none c = if_none (Other c.args.rest.now) _
     (λ p q m hp hq hm e.
-    let a = split_unique c.in_ok-packet.packet.now c.in_ok-packet.rest.now (decimal p) (decimal q ++ 32 ∷ decimal m) c.in_ok-packet.ensures.first (decimal_no_space p (omega arith)) (sym c.in_ok-packet.ensures.some ∙ e) in
-    let b = split_unique c.in_ok-percentage.percentage.now c.in_ok-percentage.minimum.now (decimal q) (decimal m) c.in_ok-percentage.ensures.first (decimal_no_space q (omega arith)) (sym c.in_ok-percentage.ensures.some ∙ a.1) in
+    let a = split_unique c.in_ok-packet.packet.now c.in_ok-packet.rest.now (decimal p) (decimal q ++ 32 ∷ decimal m) c.in_ok-packet.ensures.first
+    (decimal_no_space p (omega arith)) (sym c.in_ok-packet.ensures.some ∙ e) in
+    let b = split_unique c.in_ok-percentage.percentage.now c.in_ok-percentage.minimum.now (decimal q) (decimal m) c.in_ok-percentage.ensures.first
+    (decimal_no_space q (omega arith)) (sym c.in_ok-percentage.ensures.some ∙ a.1) in
     c.in_err-percentage-2.ensures.none q hq b.0)
 
 pub returns-in_err-minimum-clause-none : goal.returns-in_err-minimum-clause-none
 returns-in_err-minimum-clause-none c = if_none (Other c.args.rest.now) _
     (λ p q m hp hq hm e.
-    let a = split_unique c.in_ok-packet.packet.now c.in_ok-packet.rest.now (decimal p) (decimal q ++ 32 ∷ decimal m) c.in_ok-packet.ensures.first (decimal_no_space p (omega arith)) (sym c.in_ok-packet.ensures.some ∙ e) in
-    let b = split_unique c.in_ok-percentage.percentage.now c.in_ok-percentage.minimum.now (decimal q) (decimal m) c.in_ok-percentage.ensures.first (decimal_no_space q (omega arith)) (sym c.in_ok-percentage.ensures.some ∙ a.1) in
+    let a = split_unique c.in_ok-packet.packet.now c.in_ok-packet.rest.now (decimal p) (decimal q ++ 32 ∷ decimal m) c.in_ok-packet.ensures.first
+    (decimal_no_space p (omega arith)) (sym c.in_ok-packet.ensures.some ∙ e) in
+    let b = split_unique c.in_ok-percentage.percentage.now c.in_ok-percentage.minimum.now (decimal q) (decimal m) c.in_ok-percentage.ensures.first
+    (decimal_no_space q (omega arith)) (sym c.in_ok-percentage.ensures.some ∙ a.1) in
     c.in_err-minimum.ensures.none m hm b.1)

@@ -11,12 +11,14 @@ pub returns-in_err-session-2-clause-none : goal.returns-in_err-session-2-clause-
 returns-in_err-session-2-clause-none c =
     if_none ((session k : ℕ) → session < 2 ^ 32 → k < 2 ^ 32 → c.args.rest.now ≢ decimal session ++ 32 ∷ decimal k) _
     (λ s k hs hk e.
-    let p = split_unique c.in_ok-session.session.now c.in_ok-session.k.now (decimal s) (decimal k) c.in_ok-session.ensures.first (decimal_no_space s (omega arith)) (sym c.in_ok-session.ensures.some ∙ e) in
+    let p = split_unique c.in_ok-session.session.now c.in_ok-session.k.now (decimal s) (decimal k) c.in_ok-session.ensures.first
+    (decimal_no_space s (omega arith)) (sym c.in_ok-session.ensures.some ∙ e) in
     c.in_err-session-2.ensures.none s hs p.0)
 
 pub returns-in_err-k-clause-none : goal.returns-in_err-k-clause-none
 returns-in_err-k-clause-none c =
     if_none ((session k : ℕ) → session < 2 ^ 32 → k < 2 ^ 32 → c.args.rest.now ≢ decimal session ++ 32 ∷ decimal k) _
     (λ s k hs hk e.
-    let p = split_unique c.in_ok-session.session.now c.in_ok-session.k.now (decimal s) (decimal k) c.in_ok-session.ensures.first (decimal_no_space s (omega arith)) (sym c.in_ok-session.ensures.some ∙ e) in
+    let p = split_unique c.in_ok-session.session.now c.in_ok-session.k.now (decimal s) (decimal k) c.in_ok-session.ensures.first
+    (decimal_no_space s (omega arith)) (sym c.in_ok-session.ensures.some ∙ e) in
     c.in_err-k.ensures.none k hk p.1)

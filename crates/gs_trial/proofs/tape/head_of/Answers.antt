@@ -5,22 +5,32 @@ use Rattle.gs_trial.proofs.tape.head_of.Goals as goal
 
 pub returns-in_default-clause-none : goal.returns-in_default-clause-none
 unfolding head_at
-returns-in_default-clause-none c = λ size. bind-nothing (text_at size (codes "GSTAPE01") c.args.bytes.now) _ (λ h. h.0.audio ≡ 0 → ⊥) (text_at-other size (codes "GSTAPE01") c.args.bytes.now (search rules))
+returns-in_default-clause-none c = λ size. bind-nothing (text_at size (codes "GSTAPE01") c.args.bytes.now) _ (λ h. h.0.audio ≡ 0 → ⊥)
+    (text_at-other size (codes "GSTAPE01") c.args.bytes.now (search rules))
 
 pub returns-in_default-split_u16-clause-none : goal.returns-in_default-split_u16-clause-none
 unfolding head_at
-returns-in_default-split_u16-clause-none c = λ size. rw (magic_stands size c.args.bytes.now c.in-Some.rest.now (search rules), c.in_default-split_u16.ensures.read size) tt
+returns-in_default-split_u16-clause-none c = λ size. rw (
+  magic_stands size c.args.bytes.now c.in-Some.rest.now (search rules),
+  c.in_default-split_u16.ensures.read size,
+) tt
 
 pub returns-then-audio-ne0-clause-none : goal.returns-then-audio-ne0-clause-none
 unfolding head_at
 returns-then-audio-ne0-clause-none c = λ size.
     rw (magic_stands size c.args.bytes.now c.in-Some.rest.now (search rules), c.in-Some-split_u16.ensures.read size)
-    (if_ok_then _ (λ h. h.0.audio ≡ c.in-Some-split_u16.audio) (λ h. h.0.audio ≡ 0 → ⊥) (λ h e z. c.if-audio-ne0.true (sym e ∙ z)) (head_audio size c.in-Some-split_u16.audio c.in-Some-split_u16.rest.now))
+    (if_ok_then _ (λ h. h.0.audio ≡ c.in-Some-split_u16.audio) (λ h. h.0.audio ≡ 0 → ⊥) (λ h e z. c.if-audio-ne0.true (sym e ∙ z))
+    (head_audio size c.in-Some-split_u16.audio c.in-Some-split_u16.rest.now))
 
 pub returns-in_default-split_u8-clause-none : goal.returns-in_default-split_u8-clause-none
 unfolding head_at
 returns-in_default-split_u8-clause-none c = λ size.
-    rw (magic_stands size c.args.bytes.now c.in-Some.rest.now (search rules), c.in-Some-split_u16.ensures.read size, c.if-audio-ne0.false, c.in_default-split_u8.ensures.read size) tt
+    rw (
+      magic_stands size c.args.bytes.now c.in-Some.rest.now (search rules),
+      c.in-Some-split_u16.ensures.read size,
+      c.if-audio-ne0.false,
+      c.in_default-split_u8.ensures.read size,
+    ) tt
 
 pub returns-then-duration-ne10-clause-none : goal.returns-then-duration-ne10-clause-none
 unfolding head_at

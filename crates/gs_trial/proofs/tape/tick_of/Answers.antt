@@ -33,7 +33,14 @@ pub returns-in_default-split_u8-2-clause-none : goal.returns-in_default-split_u8
 unfolding tick_at
 returns-in_default-split_u8-2-clause-none c = λ size number held room.
     let t : nat_lt c.in-Some.time c.args.earliest ≡ false = le-ltb _ _ c.if-time-earliest.false in
-    rw (c.in-Some.ensures.read size, t, c.in-Some-split_u8.ensures.read size, c.if-sounds-ne0.false, room_for held room, c.in_default-split_u8-2.ensures.read size) tt
+    rw (
+      c.in-Some.ensures.read size,
+      t,
+      c.in-Some-split_u8.ensures.read size,
+      c.if-sounds-ne0.false,
+      room_for held room,
+      c.in_default-split_u8-2.ensures.read size,
+    ) tt
 
 pub returns-then-deltas-ne0-clause-none : goal.returns-then-deltas-ne0-clause-none
 unfolding tick_at
@@ -46,9 +53,18 @@ pub returns-in_default-2-clause-none : goal.returns-in_default-2-clause-none
 unfolding tick_at
 returns-in_default-2-clause-none c = λ size number held room.
     let t : nat_lt c.in-Some.time c.args.earliest ≡ false = le-ltb _ _ c.if-time-earliest.false in
-    rw (c.in-Some.ensures.read size, t, c.in-Some-split_u8.ensures.read size, c.if-sounds-ne0.false, room_for held room, c.in-Some-split_u8-2.ensures.read size, c.if-deltas-ne0.false)
+    rw (
+      c.in-Some.ensures.read size,
+      t,
+      c.in-Some-split_u8.ensures.read size,
+      c.if-sounds-ne0.false,
+      room_for held room,
+      c.in-Some-split_u8-2.ensures.read size,
+      c.if-deltas-ne0.false,
+    )
     (unit_not_small size number c.in-Some.time (held + 0) c.in-Some-split_u8-2.rest.now
-    (none_at c.in_ok-idr.field-0 ((size number held : ℕ) → IsOtherUnit (unit_at size number held c.in-Some-split_u8-2.rest.now)) c.in_default-2.is c.in_ok-idr.ensures.none size number (held + 0)))
+    (none_at c.in_ok-idr.field-0 ((size number held : ℕ) → IsOtherUnit (unit_at size number held c.in-Some-split_u8-2.rest.now)) c.in_default-2.is
+    c.in_ok-idr.ensures.none size number (held + 0)))
 
 pub returns-clause-read : goal.returns-clause-read
 unfolding tick_at deltas_at audio_at
@@ -60,4 +76,14 @@ returns-clause-read c = λ size number held room.
     some_at c.in_ok-idr.field-0 (c.in-Some-2.idr, c.in-Some-2.rest)
     (λ x. (s n h : ℕ) → h + length x.0 ≤ most_bytes → unit_at s n h c.in-Some-split_u8-2.rest.now ≡ Ok (x.0, x.1.now))
     c.in-Some-2.is c.in_ok-idr.ensures.read size number (held + 0) fits in
-    rw (c.in-Some.ensures.read size, t, c.in-Some-split_u8.ensures.read size, c.if-sounds-ne0.false, room_for held few, c.in-Some-split_u8-2.ensures.read size, c.if-deltas-ne0.false, u, add-zero) refl
+    rw (
+      c.in-Some.ensures.read size,
+      t,
+      c.in-Some-split_u8.ensures.read size,
+      c.if-sounds-ne0.false,
+      room_for held few,
+      c.in-Some-split_u8-2.ensures.read size,
+      c.if-deltas-ne0.false,
+      u,
+      add-zero,
+    ) refl

@@ -12,7 +12,8 @@ invariant-loop-tag l = record {
   small : All (λ t. length t.idr ≤ most_small_unit) l.ticks.items;
   bytes : held_by l.ticks.items + length l.ticks.items + length l.rest ≤ length l.bytes;
   read : (steps size : ℕ) → length l.bytes ≤ steps → (s : ℕ) × (length l.rest ≤ s)
-      × (ticks_at steps size 0 before_first l.bytes ≡ before_rest (ticks_seen 1 l.ticks.items) (ticks_at s size 0 (known_before (1 + length l.ticks.items) l.time (held_by l.ticks.items)) l.rest));
+      × (ticks_at steps size 0 before_first l.bytes ≡ before_rest (ticks_seen 1 l.ticks.items)
+      (ticks_at s size 0 (known_before (1 + length l.ticks.items) l.time (held_by l.ticks.items)) l.rest));
 }
 
 abbrev pub decreases-loop-tag : goal.decreases-loop-tag

@@ -15,6 +15,8 @@ returns-then-length-gt-MOST_SMALL_UNIT-clause-none c = λ size number held.
 pub returns-clause-read : goal.returns-clause-read
 unfolding unit_at
 returns-clause-read c = λ size number held room.
-    let len : length c.in_ok-unit.unit ≡ c.in-Some.length = ap length c.in_ok-unit.ensures ∙ length-take-le c.in-Some.length c.in-Some.rest.now c.if-length-rest.false in
+    let len : length c.in_ok-unit.unit ≡ c.in-Some.length = ap length c.in_ok-unit.ensures
+    ∙ length-take-le c.in-Some.length c.in-Some.rest.now c.if-length-rest.false in
     let fits : held + c.in-Some.length ≤ most_bytes = omega arith in
-    rw (c.in-Some.ensures.read size, c.in_ok-unit.ensures) (unit_read size number held c.in-Some.length c.in-Some.rest.now c.if-length-gt-MOST_SMALL_UNIT.false c.if-length-rest.false fits)
+    rw (c.in-Some.ensures.read size, c.in_ok-unit.ensures) (unit_read size number held c.in-Some.length c.in-Some.rest.now c.if-length-gt-MOST_SMALL_UNIT.false
+    c.if-length-rest.false fits)

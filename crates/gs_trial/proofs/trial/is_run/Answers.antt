@@ -14,9 +14,12 @@ returns-in-empty c = empty_run _ c.args.steps.now c.in-empty.len_below
 pub returns-then-is_some : goal.returns-then-is_some
 returns-then-is_some c =
     let first = (slice_index_or c.args.steps.now 0 (Session 0 0 0)) in
-    let o : opens first ≡ true = some_opens c.settings_of.result (opens first) (λ s. numbers_of s ≡ first_settings c.args.tape.now.duration first) (sym c.is_some.ensures ∙ c.if-is_some.true) c.settings_of.ensures.some in
-    run_rest c.args.tape.now.duration c.args.tape.now.ticks.items first (take (length c.args.steps.now - 1) (drop 1 c.args.steps.now)) c.args.steps.now c.are_all_taken.result (first_and_rest c.args.steps.now (Session 0 0 0) c.in-len1-up.len_at_least) o
-    (c.are_all_taken.ensures (seen c.args.tape.now.duration c.args.tape.now.ticks.items) (first_settings c.args.tape.now.duration first) (bare_first c.args.tape.now.duration first c.requires.known o)
+    let o : opens first ≡ true = some_opens c.settings_of.result (opens first) (λ s. numbers_of s ≡ first_settings c.args.tape.now.duration first)
+    (sym c.is_some.ensures ∙ c.if-is_some.true) c.settings_of.ensures.some in
+    run_rest c.args.tape.now.duration c.args.tape.now.ticks.items first (take (length c.args.steps.now - 1) (drop 1 c.args.steps.now)) c.args.steps.now
+    c.are_all_taken.result (first_and_rest c.args.steps.now (Session 0 0 0) c.in-len1-up.len_at_least) o
+    (c.are_all_taken.ensures (seen c.args.tape.now.duration c.args.tape.now.ticks.items) (first_settings c.args.tape.now.duration first)
+    (bare_first c.args.tape.now.duration first c.requires.known o)
     (small_seen 1 c.args.tape.now.ticks.items (recursion_from_All (λ t. length t.idr ≤ most_small_unit) c.args.tape.now.ticks.items c.requires.small))
     (length-ticks_seen 1 c.args.tape.now.ticks.items ∙ sym (c.len.ensures ∙ c.args.tape.now.ticks.ok.0)))
 
@@ -24,4 +27,6 @@ pub returns-else-is_some : goal.returns-else-is_some
 returns-else-is_some c =
     let first = (slice_index_or c.args.steps.now 0 (Session 0 0 0)) in
     let o : opens first ≡ false = none_opens c.settings_of.result (opens first) (sym c.is_some.ensures ∙ c.if-is_some.false) c.settings_of.ensures.none in
-    c.if-is_some.false ∙ run_none (seen c.args.tape.now.duration c.args.tape.now.ticks.items) first (take (length c.args.steps.now - 1) (drop 1 c.args.steps.now)) c.args.steps.now (first_and_rest c.args.steps.now (Session 0 0 0) c.in-len1-up.len_at_least) o
+    c.if-is_some.false ∙ run_none (seen c.args.tape.now.duration c.args.tape.now.ticks.items) first
+    (take (length c.args.steps.now - 1) (drop 1 c.args.steps.now)) c.args.steps.now
+    (first_and_rest c.args.steps.now (Session 0 0 0) c.in-len1-up.len_at_least) o

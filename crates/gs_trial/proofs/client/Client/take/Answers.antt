@@ -15,19 +15,22 @@ read_u16_le-requires c =
 pub slice_bounds-result-count : goal.slice_bounds-result-count
 slice_bounds-result-count c =
     let r = read_as c.requires.settings c.requires.frame c.requires.unit c.args.datagram.now c.requires.sent in
-    let past = unit_end c.requires.settings c.requires.frame c.requires.unit c.args.datagram.now c.read_u16_le.result c.from-end.result r c.read_u16_le.ensures c.from-end.ensures in
+    let past = unit_end c.requires.settings c.requires.frame c.requires.unit c.args.datagram.now c.read_u16_le.result c.from-end.result r c.read_u16_le.ensures
+    c.from-end.ensures in
     omega arith
 
 pub slice_bounds-result-end : goal.slice_bounds-result-end
 slice_bounds-result-end c =
     let r = read_as c.requires.settings c.requires.frame c.requires.unit c.args.datagram.now c.requires.sent in
-    let past = unit_end c.requires.settings c.requires.frame c.requires.unit c.args.datagram.now c.read_u16_le.result c.from-end.result r c.read_u16_le.ensures c.from-end.ensures in
+    let past = unit_end c.requires.settings c.requires.frame c.requires.unit c.args.datagram.now c.read_u16_le.result c.from-end.result r c.read_u16_le.ensures
+    c.from-end.ensures in
     search rules
 
 pub slice_bounds-result-start : goal.slice_bounds-result-start
 slice_bounds-result-start c =
     let r = read_as c.requires.settings c.requires.frame c.requires.unit c.args.datagram.now c.requires.sent in
-    let past = unit_end c.requires.settings c.requires.frame c.requires.unit c.args.datagram.now c.read_u16_le.result c.from-end.result r c.read_u16_le.ensures c.from-end.ensures in
+    let past = unit_end c.requires.settings c.requires.frame c.requires.unit c.args.datagram.now c.read_u16_le.result c.from-end.result r c.read_u16_le.ensures
+    c.from-end.ensures in
     search rules
 
 pub returns-then-frame-self-clause-passed : goal.returns-then-frame-self-clause-passed

@@ -7,4 +7,5 @@ returns-else-self-ticks-clause-counts c = one_captured _ _ _ c.args.step.now c.i
 
 pub returns-then-session-eq1-clause-counts : goal.returns-then-session-eq1-clause-counts
 returns-then-session-eq1-clause-counts c =
-    named_one c.args.self.now c.args.ticks c.args.step.now c.in-Video.session c.in-Video.k c.is_nameable.result c.in-Video.is c.if-session-eq1.true c.is_nameable.ensures
+    named_one c.args.self.now c.args.ticks c.args.step.now c.in-Video.session c.in-Video.k c.is_nameable.result c.in-Video.is c.if-session-eq1.true
+    c.is_nameable.ensures

@@ -20,7 +20,8 @@ video_first s session k e small = e ∙ ap (λ (n : ℕ). Video n k) (eqb-true s
 may_act_as : (ticks : List SmallTick) (session : Session) (s t : Step) → s ≡ t → MayAct ticks session s → MayAct ticks session t
 may_act_as ticks session s t e may = let P : Step → Type 0 = MayAct ticks session in subst P e may
 
-acts_as : (ticks : List SmallTick) (old new : Session) (text text' : List ℕ) (s t : Step) → s ≡ t → Acts ticks old new t text text' → Acts ticks old new s text text'
+acts_as : (ticks : List SmallTick) (old new : Session) (text text' : List ℕ) (s t : Step) → s ≡ t → Acts ticks old new t text text'
+    → Acts ticks old new s text text'
 acts_as ticks old new text text' s t e acts = let P : Step → Type 0 = λ u. Acts ticks old new u text text' in subst P (sym e) acts
 
 pub returns-in-Cap : goal.returns-in-Cap
@@ -30,7 +31,8 @@ returns-in-Cap c =
 
 pub send-requires : goal.send-requires
 send-requires c =
-    may_act_as c.args.ticks.now c.args.self.now c.args.step.now (Send 1) (send_first c.args.step.now c.in-Send.session c.in-Send.is c.requires.small_step) c.requires
+    may_act_as c.args.ticks.now c.args.self.now c.args.step.now (Send 1) (send_first c.args.step.now c.in-Send.session c.in-Send.is c.requires.small_step)
+    c.requires
 
 pub deliver-requires : goal.deliver-requires
 deliver-requires c =

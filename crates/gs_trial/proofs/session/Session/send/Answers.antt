@@ -12,16 +12,19 @@ pub returns-then-branch : goal.returns-then-branch
 returns-then-branch c =
     on_ok_weaker c.push_sent.result
     (λ text tape state s taken.
-    let turn = turned c.args.ticks.now c.args.self.now tape state c.index-ticks-self.result c.send.new.self c.in_ok-send.field-0 s c.if-self-eq0.false c.index-ticks-self.is
+    let turn = turned c.args.ticks.now c.args.self.now tape state c.index-ticks-self.result c.send.new.self c.in_ok-send.field-0 s c.if-self-eq0.false
+    c.index-ticks-self.is
     c.in_ok-send.ensures.newer c.in_ok-send.ensures.sends in
     let sent = one_sent turn c.if-branch.true in
-    sent_acted c.args.ticks.now c.args.self.now _ tape state c.index-ticks-self.result c.args.text.now.items c.push_sent.new.text.items s sent.0 turn.there refl refl sent.1
+    sent_acted c.args.ticks.now c.args.self.now _ tape state c.index-ticks-self.result c.args.text.now.items c.push_sent.new.text.items s sent.0 turn.there refl
+    refl sent.1
     (text ∙ ap (λ (n : ℕ). c.args.text.now.items ++ sent_line 1 n 2 c.args.self.now.captured 0) c.frames.ensures))
     c.push_sent.ensures
 
 pub returns : goal.returns
 returns c = λ tape state s taken.
-    let turn = turned c.args.ticks.now c.args.self.now tape state c.index-ticks-self.result c.send.new.self c.in_ok-send.field-0 s c.if-self-eq0.false c.index-ticks-self.is
+    let turn = turned c.args.ticks.now c.args.self.now tape state c.index-ticks-self.result c.send.new.self c.in_ok-send.field-0 s c.if-self-eq0.false
+    c.index-ticks-self.is
     c.in_ok-send.ensures.newer c.in_ok-send.ensures.sends in
     let none = none_sent turn c.if-branch.false in
     not_sent_acted c.args.ticks.now c.args.self.now _ tape state c.args.text.now.items s none.0 refl refl none.1
