@@ -9,4 +9,5 @@ MessageIsRead = (message : Message) → IsProper message → IsMessage (bytes_of
 
 -- bytes are one message at most
 abbrev pub BytesAreOneMessage : Type 0
-BytesAreOneMessage = (bytes : List ℕ) (first second : Message) → IsMessage bytes first → IsMessage bytes second → first ≡ second
+BytesAreOneMessage = (bytes : List ℕ) (first second : Message) → IsMessage bytes first → IsMessage bytes second
+    → first ≡ second

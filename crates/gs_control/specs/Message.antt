@@ -2,24 +2,24 @@
 use Rattle.std.specs.Prelude.{◌≡◌, ◌≢◌, ℕ, ◌≤◌, ◌<◌, ◌^◌, List, [], ◌∷◌, ◌++◌, drop, length, nat_lt, if◌then◌else◌, replicate, FitsSigned, ⊤}
 use Rattle.std.specs.Int.{w64, cast_signed, cast_unsigned}
 use Rattle.std.specs.List.{AllByRecursion}
-use Rattle.gs_bytes.specs.Field.{be_value, le_value, be_bytes, le_bytes}
+use Rattle.gs_bytes.specs.Field.{big_from, little_from, big_bytes, little_bytes}
 use Rattle.gs_input.specs.Event.{HasButton, IsEvent, IsKnown}
 use Rattle.gs_input.specs.Packet.{IsPacket, packet_of}
 use Rattle.gs_control.specs.declared.message.Message.{Message}
 use Rattle.gs_control.specs.declared.message.Message.TheVariants.{StartA, StartB, Invalidate, LossStats, Input, Rumble, Termination, Ping, IdrRequest, Other}
 
 -- the type of a message
-abbrev pub kind_of : Message → ℕ
-kind_of StartA = 0x0305
-kind_of StartB = 0x0307
-kind_of (Invalidate first last) = 0x0301
-kind_of LossStats = 0x0201
-kind_of (Input event) = 0x0206
-kind_of Rumble = 0x010B
-kind_of (Termination code) = 0x0109
-kind_of Ping = 0x0200
-kind_of IdrRequest = 0x0302
-kind_of (Other kind) = kind
+abbrev pub message_kind : Message → ℕ
+message_kind StartA = 0x0305
+message_kind StartB = 0x0307
+message_kind (Invalidate first last) = 0x0301
+message_kind LossStats = 0x0201
+message_kind (Input event) = 0x0206
+message_kind Rumble = 0x010B
+message_kind (Termination code) = 0x0109
+message_kind Ping = 0x0200
+message_kind IdrRequest = 0x0302
+message_kind (Other kind) = kind
 
 -- the types that have a message of their own
 abbrev pub kinds : List ℕ
@@ -30,21 +30,22 @@ kinds = 0x0305 ∷ 0x0307 ∷ 0x0301 ∷ 0x0201 ∷ 0x0206 ∷ 0x010B ∷ 0x0109
 -- the payload is one of the message
 abbrev pub IsPayload : List ℕ → Message → Type 0
 IsPayload payload (Invalidate first last) =
-    (length payload ≡ 24) × (cast_signed w64 (le_value 8 0 payload) ≡ first) × (cast_signed w64 (le_value 8 8 payload) ≡ last)
+    (length payload ≡ 24) × (cast_signed w64 (little_from 0 8 payload) ≡ first)
+    × (cast_signed w64 (little_from 8 8 payload) ≡ last)
 IsPayload payload (Input event) = IsPacket payload event
-IsPayload payload (Termination code) = (length payload ≡ 4) × (be_value 4 0 payload ≡ code)
+IsPayload payload (Termination code) = (length payload ≡ 4) × (big_from 0 4 payload ≡ code)
 IsPayload payload (Other kind) = AllByRecursion (λ known. kind ≢ known) kinds
 IsPayload payload _ = length payload ≤ 64
 
 -- the bytes are a message
 pub record IsMessage (bytes : List ℕ) (message : Message) : Type 0 where
   pub whole : 2 ≤ length bytes
-  pub kind : le_value 2 0 bytes ≡ kind_of message
+  pub kind : little_from 0 2 bytes ≡ message_kind message
   pub payload : IsPayload (drop 2 bytes) message
 
 -- the type that a refusal names
 abbrev pub kind_in : List ℕ → ℕ
-kind_in bytes = if nat_lt (length bytes) 2 then 0 else le_value 2 0 bytes
+kind_in bytes = if nat_lt (length bytes) 2 then 0 else little_from 0 2 bytes
 
 -- ---- what is written
 
@@ -55,9 +56,10 @@ zeros n = replicate n 0
 abbrev pub payload_of : Message → List ℕ
 payload_of StartA = zeros 2
 payload_of StartB = zeros 1
-payload_of (Invalidate first last) = le_bytes 8 (cast_unsigned w64 first) ++ le_bytes 8 (cast_unsigned w64 last) ++ zeros 8
+payload_of (Invalidate first last) = little_bytes 8 (cast_unsigned w64 first) ++ little_bytes 8 (cast_unsigned w64 last)
+    ++ zeros 8
 payload_of (Input event) = packet_of event
-payload_of (Termination code) = be_bytes 4 code
+payload_of (Termination code) = big_bytes 4 code
 payload_of Ping = zeros 8
 payload_of IdrRequest = zeros 2
 payload_of LossStats = []
@@ -66,7 +68,7 @@ payload_of (Other kind) = []
 
 -- the bytes that are written for a message
 abbrev pub bytes_of : Message → List ℕ
-bytes_of message = le_bytes 2 (kind_of message) ++ payload_of message
+bytes_of message = little_bytes 2 (message_kind message) ++ payload_of message
 
 -- a message that is written
 abbrev pub IsWritten : Message → Type 0

@@ -1,11 +1,11 @@
 //! The payloads of control messages.
 
 ghost use Rattle.std.specs.Prelude.{◌≡◌, ◌≤◌, ◌++◌, ◌↔◌, IfSome, Some, drop, if◌then◌else◌, length, nat_le};
-ghost use Rattle.gs_bytes.specs.Field.{le_bytes};
+ghost use Rattle.gs_bytes.specs.Field.{little_bytes};
 ghost use Rattle.gs_input.specs.declared.event.Event.{Event};
 ghost use Rattle.gs_input.specs.Event.{HasButton, IsKnown};
 ghost use Rattle.gs_control.specs.declared.message.Message.{Message};
-ghost use Rattle.gs_control.specs.Message.{HasInputButton, IsPayload, bytes_of, kind_of, payload_of};
+ghost use Rattle.gs_control.specs.Message.{HasInputButton, IsPayload, bytes_of, message_kind, payload_of};
 
 use crate::message::{
     IDR_REQUEST, INPUT, INVALIDATE, LOSS_STATS, Message, PING, RUMBLE, START_A, START_B,
@@ -32,7 +32,7 @@ fn unread(payload: &[u8], message: Message) -> Option<Message>
 }
 
 fn read_range(payload: &[u8]) -> Option<Message>
-    ensures message { (message : Message) → (result ≡ Some message) ↔ ((kind_of message ≡ 0x0301) × IsPayload payload.now message) }
+    ensures message { (message : Message) → (result ≡ Some message) ↔ ((message_kind message ≡ 0x0301) × IsPayload payload.now message) }
     ensures button { IfSome result (λ message. HasInputButton message) }
 {
     if payload.len() != RANGE_LEN {
@@ -45,7 +45,7 @@ fn read_range(payload: &[u8]) -> Option<Message>
 }
 
 fn read_termination(payload: &[u8]) -> Option<Message>
-    ensures message { (message : Message) → (result ≡ Some message) ↔ ((kind_of message ≡ 0x0109) × IsPayload payload.now message) }
+    ensures message { (message : Message) → (result ≡ Some message) ↔ ((message_kind message ≡ 0x0109) × IsPayload payload.now message) }
     ensures button { IfSome result (λ message. HasInputButton message) }
 {
     if payload.len() != CODE_LEN {
@@ -57,7 +57,7 @@ fn read_termination(payload: &[u8]) -> Option<Message>
 }
 
 fn read_input(payload: &[u8]) -> Option<Message>
-    ensures message { (message : Message) → (result ≡ Some message) ↔ ((kind_of message ≡ 0x0206) × IsPayload payload.now message) }
+    ensures message { (message : Message) → (result ≡ Some message) ↔ ((message_kind message ≡ 0x0206) × IsPayload payload.now message) }
     ensures button { IfSome result (λ message. HasInputButton message) }
 {
     let event = Event::read(payload).ok()?;
@@ -66,7 +66,7 @@ fn read_input(payload: &[u8]) -> Option<Message>
 
 /// The message of a type and a payload.
 pub fn read_payload(kind: u16, payload: &[u8]) -> Option<Message>
-    ensures message { (message : Message) → (result ≡ Some message) ↔ ((kind ≡ kind_of message) × IsPayload payload.now message) }
+    ensures message { (message : Message) → (result ≡ Some message) ↔ ((kind ≡ message_kind message) × IsPayload payload.now message) }
     ensures button { IfSome result (λ message. HasInputButton message) }
 {
     match kind {
@@ -97,8 +97,8 @@ pub fn range(first: i64, last: i64) -> [u8; RANGE_LEN]
 pub fn put(out: &mut [u8], kind: u16, payload: &[u8]) -> usize
     requires payload { length payload.now ≤ 62 }
     requires room { 64 ≤ length out.old }
-    ensures length { result ≡ length (le_bytes 2 kind ++ payload.now) }
-    ensures written { out.new ≡ (le_bytes 2 kind ++ payload.now) ++ drop result out.old }
+    ensures length { result ≡ length (little_bytes 2 kind ++ payload.now) }
+    ensures written { out.new ≡ (little_bytes 2 kind ++ payload.now) ++ drop result out.old }
 {
     let end = PAYLOAD_AT + payload.len();
     write_u16_le(out, 0, kind);

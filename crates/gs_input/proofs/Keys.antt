@@ -42,18 +42,22 @@ code_taken old new code h = same_set int_cmp_total int_cmp-IsAntisymmetric _ _ (
     ∙ sym (contains-remove int_cmp_total (set.from_list old) code q))
 
 -- a code is down where its last key event was a key down
-down_case : (b x : Bool) (event : Event) (earlier : Option Event) → is_key_down event ≡ true → x ≡ is_down earlier → (b || x) ≡ is_down (cond b (Some event) earlier)
+down_case : (b x : Bool) (event : Event) (earlier : Option Event) → is_key_down event ≡ true → x ≡ is_down earlier
+    → (b || x) ≡ is_down (cond b (Some event) earlier)
 down_case true x event earlier is e = sym is
 down_case false x event earlier is e = e
 
-up_case : (b x : Bool) (event : Event) (earlier : Option Event) → is_key_down event ≡ false → x ≡ is_down earlier → (not b && x) ≡ is_down (cond b (Some event) earlier)
+up_case : (b x : Bool) (event : Event) (earlier : Option Event) → is_key_down event ≡ false → x ≡ is_down earlier
+    → (not b && x) ≡ is_down (cond b (Some event) earlier)
 up_case true x event earlier is e = sym is
 up_case false x event earlier is e = e
 
 pub down_is_last_down : (events : List Event) (code : ℤ) → set.contains (down_after events) code ≡ was_last_down events code
 down_is_last_down [] code = contains-empty int_cmp code
-down_is_last_down (KeyDown other modifiers ∷ events) code = contains-insert int_cmp_total (down_after events) other code ∙ down_case (same code other) _ (KeyDown other modifiers) _ refl (down_is_last_down events code)
-down_is_last_down (KeyUp other modifiers ∷ events) code = contains-remove int_cmp_total (down_after events) other code ∙ up_case (same code other) _ (KeyUp other modifiers) _ refl (down_is_last_down events code)
+down_is_last_down (KeyDown other modifiers ∷ events) code = contains-insert int_cmp_total (down_after events) other code
+    ∙ down_case (same code other) _ (KeyDown other modifiers) _ refl (down_is_last_down events code)
+down_is_last_down (KeyUp other modifiers ∷ events) code = contains-remove int_cmp_total (down_after events) other code
+    ∙ up_case (same code other) _ (KeyUp other modifiers) _ refl (down_is_last_down events code)
 down_is_last_down (Move dx dy ∷ events) code = down_is_last_down events code
 down_is_last_down (At x y width height ∷ events) code = down_is_last_down events code
 down_is_last_down (Press button ∷ events) code = down_is_last_down events code

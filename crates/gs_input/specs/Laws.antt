@@ -14,7 +14,8 @@ PacketIsRead = (event : Event) → IsEvent event → IsPacket (packet_of event) 
 
 -- the bytes are a packet of one event at most
 abbrev pub PacketHasOneEvent : Type 0
-PacketHasOneEvent = (bytes : List ℕ) (first second : Event) → IsPacket bytes first → IsPacket bytes second → first ≡ second
+PacketHasOneEvent = (bytes : List ℕ) (first second : Event) → IsPacket bytes first → IsPacket bytes second
+    → first ≡ second
 
 -- what is written for an event is a line of that event
 abbrev pub LineIsRead : Type 0
@@ -30,4 +31,5 @@ UnknownIsNotRead = (magic : ℕ) (event : Event) → IsLine (event_line (Unknown
 
 -- a code is among those that are down where the last key event of the code was a key down
 abbrev pub LastKeyEventDecides : Type 0
-LastKeyEventDecides = (events : List Event) (code : ℤ) → set.contains (down_after events) code ≡ was_last_down events code
+LastKeyEventDecides = (events : List Event) (code : ℤ)
+    → set.contains (down_after events) code ≡ was_last_down events code

@@ -22,7 +22,8 @@ abbrev pub arguments_of : Event → List (List ℕ)
 arguments_of (KeyDown code modifiers) = signed_decimal code ∷ decimal modifiers ∷ []
 arguments_of (KeyUp code modifiers) = signed_decimal code ∷ decimal modifiers ∷ []
 arguments_of (Move dx dy) = signed_decimal dx ∷ signed_decimal dy ∷ []
-arguments_of (At x y width height) = signed_decimal x ∷ signed_decimal y ∷ signed_decimal width ∷ signed_decimal height ∷ []
+arguments_of (At x y width height) = signed_decimal x ∷ signed_decimal y ∷ signed_decimal width ∷ signed_decimal height
+    ∷ []
 arguments_of (Press button) = decimal button ∷ []
 arguments_of (Release button) = decimal button ∷ []
 arguments_of (Scroll amount) = signed_decimal amount ∷ []

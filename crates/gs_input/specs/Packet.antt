@@ -2,7 +2,7 @@
 -- names the kind of event (4 bytes, the lowest first), and the body.
 use Rattle.std.specs.Prelude.{◌≡◌, ℕ, ℤ, ◌+◌, Bool, true, IsTrue, not, ◌&&◌, ◌||◌, ◌==◌, nat_le, if◌then◌else◌, List, [], ◌∷◌, ◌++◌, length, slice_index, Option, Some, None, ⊤}
 use Rattle.std.specs.Int.{w16, cast_signed, cast_unsigned}
-use Rattle.gs_bytes.specs.Field.{be_value, le_value, be_bytes, le_bytes}
+use Rattle.gs_bytes.specs.Field.{big_from, little_from, big_bytes, little_bytes}
 use Rattle.gs_input.specs.declared.event.Event.{Event}
 use Rattle.gs_input.specs.declared.event.Event.TheVariants.{KeyDown, KeyUp, Move, At, Press, Release, Scroll, Unknown}
 use Rattle.gs_input.specs.Event.{HasButton}
@@ -38,7 +38,7 @@ fields_of (At x y width height) = big x ∷ big y ∷ ignored (0 ∷ 0 ∷ []) �
 fields_of (Move dx dy) = big dx ∷ big dy ∷ []
 fields_of (Press button) = byte button ∷ []
 fields_of (Release button) = byte button ∷ []
-fields_of (Scroll amount) = big amount ∷ ignored (be_bytes 2 (cast_unsigned w16 amount)) ∷ ignored (0 ∷ 0 ∷ []) ∷ []
+fields_of (Scroll amount) = big amount ∷ ignored (big_bytes 2 (cast_unsigned w16 amount)) ∷ ignored (0 ∷ 0 ∷ []) ∷ []
 fields_of (Unknown magic) = []
 
 -- how many bytes a known magic's body has
@@ -62,8 +62,8 @@ width_of (ignored bytes) = length bytes
 -- the field is what stands at the place
 abbrev pub StandsAt : ℕ → List ℕ → Field → Type 0
 StandsAt place bytes (byte value) = slice_index bytes place ≡ value
-StandsAt place bytes (little value) = cast_signed w16 (le_value 2 place bytes) ≡ value
-StandsAt place bytes (big value) = cast_signed w16 (be_value 2 place bytes) ≡ value
+StandsAt place bytes (little value) = cast_signed w16 (little_from place 2 bytes) ≡ value
+StandsAt place bytes (big value) = cast_signed w16 (big_from place 2 bytes) ≡ value
 StandsAt place bytes (ignored written) = ⊤
 
 -- the fields stand one behind the other from the place to the end of the bytes
@@ -73,10 +73,10 @@ StandFrom place bytes (field ∷ fields) = StandsAt place bytes field × StandFr
 
 -- there is a size, which is that of the rest, and a magic
 abbrev pub has_size : List ℕ → Bool
-has_size bytes = nat_le 8 (length bytes) && be_value 4 0 bytes + 4 == length bytes
+has_size bytes = nat_le 8 (length bytes) && big_from 0 4 bytes + 4 == length bytes
 
 abbrev pub magic_in : List ℕ → ℕ
-magic_in bytes = le_value 4 4 bytes
+magic_in bytes = little_from 4 4 bytes
 
 abbrev pub IsBody : List ℕ → Event → Type 0
 IsBody bytes (Unknown magic) = body_length magic ≡ None
@@ -98,7 +98,8 @@ has_length (Some body) bytes = length bytes == 8 + body
 -- a press or a release, whose body is a number of no button
 abbrev pub has_bad_button : List ℕ → Bool
 has_bad_button bytes =
-    (magic_in bytes == 8 || magic_in bytes == 9) && not (nat_le 1 (slice_index bytes 8) && nat_le (slice_index bytes 8) 5)
+    (magic_in bytes == 8 || magic_in bytes == 9)
+    && not (nat_le 1 (slice_index bytes 8) && nat_le (slice_index bytes 8) 5)
 
 -- the place of what no packet has: the size, else the magic that has another length, else the button
 abbrev pub fault_of : List ℕ → Option ℕ
@@ -112,8 +113,8 @@ fault_of bytes =
 
 abbrev pub written : Field → List ℕ
 written (byte value) = value ∷ []
-written (little value) = le_bytes 2 (cast_unsigned w16 value)
-written (big value) = be_bytes 2 (cast_unsigned w16 value)
+written (little value) = little_bytes 2 (cast_unsigned w16 value)
+written (big value) = big_bytes 2 (cast_unsigned w16 value)
 written (ignored bytes) = bytes
 
 abbrev pub all_written : List Field → List ℕ
@@ -122,7 +123,7 @@ all_written (field ∷ fields) = written field ++ all_written fields
 
 -- the packet around a body
 abbrev pub packet_around : ℕ → List ℕ → List ℕ
-packet_around magic body = be_bytes 4 (4 + length body) ++ le_bytes 4 magic ++ body
+packet_around magic body = big_bytes 4 (4 + length body) ++ little_bytes 4 magic ++ body
 
 -- the packet that is written for an event
 abbrev pub packet_of : Event → List ℕ

@@ -11,10 +11,15 @@ use thiserror::Error;
 
 /// What a user did at the client.
 ///
-/// A `code` is a key's code as GameStream sends it, a Windows virtual-key code with bit 0x8000 set.
-/// `modifiers` are the keys held with it: 1 Shift, 2 Ctrl, 4 Alt, 8 Meta. Buttons are 1 left,
-/// 2 middle, 3 right, and 4 and 5 on the side. Places and ways of the pointer are in pixels, to the
-/// right and down.
+/// A `code` is a key's code as GameStream's clients send it: a Windows virtual-key code (`VK_`, one
+/// byte) with bit 0x8000 set, so it is below 0 here, as -32,703 (0x8041) for the key A. It is
+/// carried as it is; a host takes its low byte.
+///
+/// `modifiers` are the keys held with it, one bit each: 0x01 Shift (`MODIFIER_SHIFT`), 0x02 Ctrl
+/// (`MODIFIER_CTRL`), 0x04 Alt (`MODIFIER_ALT`), 0x08 the Windows key (`MODIFIER_META`).
+///
+/// Buttons are 1 left, 2 middle, 3 right, 4 and 5 those on the side (`BUTTON_X1`, `BUTTON_X2`).
+/// Places and ways of the pointer are in pixels, to the right and down.
 #[derive(Clone, Copy, Debug, PartialEq, Eq)]
 pub enum Event {
     /// A key was pressed.
@@ -32,7 +37,7 @@ pub enum Event {
         dx: i16,
         dy: i16,
     },
-    /// The pointer is at this place of an area of this width and height.
+    /// The pointer is at this place of an area of this width and height, in the client's pixels.
     At {
         x: i16,
         y: i16,
@@ -47,7 +52,8 @@ pub enum Event {
     Release {
         button: u8,
     },
-    /// The wheel was turned, by 120 a notch; above 0 is away from the user.
+    /// The wheel was turned, in units of which 120 are a notch (`WHEEL_DELTA`), and a finer wheel
+    /// sends fewer; above 0 is forward, away from the user.
     Scroll {
         amount: i16,
     },

@@ -8,7 +8,7 @@
 
 ghost use Rattle.std.specs.Prelude.{◌≡◌, ◌≤◌, ◌+◌, ◌++◌, IfOk, IfErr, IsTrue, drop, length, slice_index};
 ghost use Rattle.std.specs.Int.{cast_signed, w16};
-ghost use Rattle.gs_bytes.specs.Field.{be_value, le_value};
+ghost use Rattle.gs_bytes.specs.Field.{big_from, little_from};
 ghost use Rattle.gs_input.specs.Packet.{IsBody, StandFrom, all_written, body_length, fields_of, has_bad_button, has_length, has_size, key_fields, magic_in, magic_of, packet_around};
 
 use crate::event::{BadEvent, Event};
@@ -78,14 +78,14 @@ pub fn has_length(magic: u32, bytes: &[u8]) -> bool
 
 fn read_i16_be(bytes: &[u8], place: usize) -> i16
     requires { place + 2 ≤ length bytes.now }
-    ensures { result ≡ cast_signed w16 (be_value 2 place bytes.now) }
+    ensures { result ≡ cast_signed w16 (big_from place 2 bytes.now) }
 {
     read_u16_be(bytes, place).cast_signed()
 }
 
 fn read_i16_le(bytes: &[u8], place: usize) -> i16
     requires { place + 2 ≤ length bytes.now }
-    ensures { result ≡ cast_signed w16 (le_value 2 place bytes.now) }
+    ensures { result ≡ cast_signed w16 (little_from place 2 bytes.now) }
 {
     read_u16_le(bytes, place).cast_signed()
 }

@@ -16,7 +16,8 @@ pub behind : (held xs zeros into post tail : List ℕ) (start room count all : �
     → take (start + count) (take all ((take start xs ++ (into ++ post)) ++ tail)) ≡ held ++ take count into
 behind held xs zeros into post tail start room count all is shape few fits =
     let whole : take (start + room) held ≡ held = take_all _ _ (omega arith) in
-    let front : take start xs ≡ held = ap (take start) (shape ∙ ap (λ ys. ys ++ zeros) whole) ∙ ap (λ (n : ℕ). take n (held ++ zeros)) is ∙ take-append_seam held zeros in
+    let front : take start xs ≡ held = ap (take start) (shape ∙ ap (λ ys. ys ++ zeros) whole) ∙ ap (λ (n : ℕ). take n (held ++ zeros)) is
+    ∙ take-append_seam held zeros in
     let joined : (take start xs ++ (into ++ post)) ++ tail ≡ held ++ (into ++ (post ++ tail)) =
     ap (λ ys. (ys ++ (into ++ post)) ++ tail) front ∙ append_assoc held (into ++ post) tail ∙ ap (λ ys. held ++ ys) (append_assoc into post tail) in
     take-take (start + count) all _ fits ∙ ap (take (start + count)) joined

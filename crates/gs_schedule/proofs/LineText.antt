@@ -74,7 +74,8 @@ broken_line held more count within unbroken broken =
     let behind : count + 1 ≤ length held = omega (arith, length-drop count held, ap length broken) in
     let used : min (length held) (count + 1) ≡ count + 1 = omega arith in
     let shape : held ≡ take count held ++ newline ∷ drop (count + 1) held = sym (take-append-drop count held) ∙ ap (λ ys. take count held ++ ys) broken in
-    let all : held ++ more ≡ take count held ++ newline ∷ (drop (count + 1) held ++ more) = ap (λ ys. ys ++ more) shape ∙ append_assoc (take count held) _ more in
+    let all : held ++ more ≡ take count held ++ newline ∷ (drop (count + 1) held ++ more) =
+    ap (λ ys. ys ++ more) shape ∙ append_assoc (take count held) _ more in
     record {
       line = take count held;
       rest = lines_of (drop (count + 1) held ++ more);
@@ -122,7 +123,8 @@ first_line held more count front =
     ]
 
 -- what is said of bytes to come that are told
-pub told : (old held held' : List ℕ) (left left' : Option (List ℕ)) (P : List ℕ → Type 0) → held ≡ old → Keeps (prepend_known held left) (prepend_known held' left')
+pub told : (old held held' : List ℕ) (left left' : Option (List ℕ)) (P : List ℕ → Type 0) → held ≡ old
+    → Keeps (prepend_known held left) (prepend_known held' left')
     → ((more : List ℕ) → left' ≡ Some more → P (held' ++ more)) → IfSome (prepend_known old left) P
 told old held held' None left' P is keeps h = tt
 told old held held' (Some xs) None P is keeps h = absurd keeps

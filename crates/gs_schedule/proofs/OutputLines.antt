@@ -16,46 +16,26 @@ use Rattle.gs_input.specs.declared.event.Event.{Event}
 use Rattle.gs_input.specs.declared.event.Event.TheVariants.{Unknown}
 use Rattle.gs_input.specs.Event.{FitsTypes as EventFits, HasButton, IsEvent, IsKnown}
 use Rattle.gs_input.specs.Line.{name_of, arguments_of, event_line}
-use Rattle.gs_input.proofs.Lines.{one_event, words_of-event_line, words_of-line_of}
+use Rattle.gs_bytes.proofs.Decimals.{signed_decimal_once}
+use Rattle.gs_bytes.proofs.WordLemmas.{HasNoSpace, HaveNoSpace, decimal-no_space, signed_decimal-no_space, words_of-front, words_of-line_of}
+use Rattle.gs_input.proofs.Lines.{one_event, words_of-event_line}
 use Rattle.gs_schedule.specs.declared.output.Output.{Output}
 use Rattle.gs_schedule.specs.declared.output.Output.TheVariants.{Sent, Ask, Hand, Play, Invalid, Idr, Ended, Input, Full, Closed, Lost, Reset, Total, Done}
-use Rattle.gs_schedule.specs.Output.{AreWide, FitsTypes, counted, output_line, output_words}
+use Rattle.gs_schedule.specs.Output.{AreWide, FitsOutputTypes, counted, output_line, output_words}
 use Rattle.gs_schedule.proofs.Keywords.{head, same_list, tail}
 
--- no byte of the word is a space
-abbrev Lacks : List ℕ → Type 0
-Lacks word = AllByRecursion (λ byte. is_space byte ≡ false) word
-
-abbrev AreSpaceless : List (List ℕ) → Type 0
-AreSpaceless words = AllByRecursion Lacks words
-
-digits_lack : (word : List ℕ) → AllDigits 10 word → Lacks word
-digits_lack [] h = tt
-digits_lack (byte ∷ word) h = let digit = digit_from_value byte h.0 in (grind (arith, nat_tests), digits_lack word h.1)
-
-decimal_lacks : (n : ℕ) → n < 2 ^ 64 → Lacks (decimal n)
-decimal_lacks n small = digits_lack (decimal n) (decimal_is_IsNumeral n small).0.1
-
-signed_lacks : (z : ℤ) → FitsSigned w64 z → Lacks (signed_decimal z)
-signed_lacks (pos n) fits = decimal_lacks n (omega (arith, fits.sfits))
-signed_lacks (negsuc n) fits = (refl, decimal_lacks (suc n) (omega (arith, fits.sfits)))
-
--- the first word of a line and the words of the rest
-front_word : (word rest : List ℕ) → Lacks word → words_of (word ++ 32 ∷ rest) ≡ word ∷ words_of rest
-front_word word rest h = slice_split_at is_space word 32 rest (All-from_recursion (λ byte. is_space byte ≡ false) word h) refl
-
-numbers_lack : (numbers : List ℕ) → AreWide numbers → AreSpaceless (map decimal numbers)
-numbers_lack [] h = tt
-numbers_lack (n ∷ numbers) h = (decimal_lacks n h.0, numbers_lack numbers h.1)
+numbers-no_space : (numbers : List ℕ) → AreWide numbers → HaveNoSpace (map decimal numbers)
+numbers-no_space [] h = tt
+numbers-no_space (n ∷ numbers) h = (decimal-no_space n h.0, numbers-no_space numbers h.1)
 
 -- words of which none has a space are those of their line
 abbrev IsLineOfWords : List (List ℕ) → Type 0
 IsLineOfWords words = words_of (line_of words) ≡ words
 
-of_counted : (name numbers : List ℕ) → Lacks name → AreWide numbers → IsLineOfWords (counted name numbers)
-of_counted name numbers h hs = words_of-line_of name (map decimal numbers) h (numbers_lack numbers hs)
+of_counted : (name numbers : List ℕ) → HasNoSpace name → AreWide numbers → IsLineOfWords (counted name numbers)
+of_counted name numbers h hs = words_of-line_of name (map decimal numbers) h (numbers-no_space numbers hs)
 
-words_are : (output : Output) → FitsTypes output → IsLineOfWords (output_words output)
+words_are : (output : Output) → FitsOutputTypes output → IsLineOfWords (output_words output)
 words_are (Sent session frame kind tick reference) h = of_counted (codes "sent") (session ∷ frame ∷ kind ∷ tick ∷ reference ∷ []) (search rules) h
 words_are (Ask session first last) h = of_counted (codes "ask") (session ∷ first ∷ last ∷ []) (search rules) h
 words_are (Hand session frame kind length) h = of_counted (codes "hand") (session ∷ frame ∷ kind ∷ length ∷ []) (search rules) h
@@ -64,25 +44,24 @@ words_are (Invalid session first last) h = of_counted (codes "invalid") (session
 words_are (Idr session) h = of_counted (codes "idr") (session ∷ []) (search rules) h
 words_are (Ended session first last) h =
     words_of-line_of (codes "ended") (decimal session ∷ signed_decimal first ∷ signed_decimal last ∷ []) (search rules)
-    (decimal_lacks session h.0, (signed_lacks first h.1, (signed_lacks last h.2, tt)))
+    (decimal-no_space session h.0, (signed_decimal-no_space first h.1, (signed_decimal-no_space last h.2, tt)))
 words_are (Input session channel event) h =
     let behind = decimal channel ++ 32 ∷ event_line event in
-    let inner = front_word (decimal channel) (event_line event) (decimal_lacks channel h.0.1.0) ∙ ap (λ (ws : List (List ℕ)). decimal channel ∷ ws) (words_of-event_line event h.1) in
-    let middle = front_word (decimal session) behind (decimal_lacks session h.0.0) ∙ ap (λ (ws : List (List ℕ)). decimal session ∷ ws) inner in
-    front_word (codes "input") (decimal session ++ 32 ∷ behind) (search rules) ∙ ap (λ (ws : List (List ℕ)). codes "input" ∷ ws) middle
+    let inner = words_of-front (decimal channel) (event_line event) (decimal-no_space channel h.0.1.0)
+    ∙ ap (λ (ws : List (List ℕ)). decimal channel ∷ ws) (words_of-event_line event h.1) in
+    let middle = words_of-front (decimal session) behind (decimal-no_space session h.0.0) ∙ ap (λ (ws : List (List ℕ)). decimal session ∷ ws) inner in
+    words_of-front (codes "input") (decimal session ++ 32 ∷ behind) (search rules) ∙ ap (λ (ws : List (List ℕ)). codes "input" ∷ ws) middle
 words_are (Full session channel) h = of_counted (codes "full") (session ∷ channel ∷ []) (search rules) h
 words_are (Closed session) h = of_counted (codes "closed") (session ∷ []) (search rules) h
 words_are (Lost session) h = of_counted (codes "lost") (session ∷ []) (search rules) h
 words_are (Reset session) h = of_counted (codes "reset") (session ∷ []) (search rules) h
-words_are (Total session frames handed asks inputs units) h = of_counted (codes "total") (session ∷ frames ∷ handed ∷ asks ∷ inputs ∷ units ∷ []) (search rules) h
+words_are (Total session frames handed asks inputs units) h = of_counted (codes "total") (session ∷ frames ∷ handed ∷ asks ∷ inputs ∷ units ∷ [])
+    (search rules) h
 words_are Done h = of_counted (codes "ok") [] (search rules) h
 
 -- numbers are told by their words
 same_wide : (ms ns : List ℕ) → AreWide ms → AreWide ns → map decimal ms ≡ map decimal ns → ms ≡ ns
 same_wide ms ns hm hn e = same_list (2 ^ 64) (lit≤ tt) ms ns hm hn e
-
-signed_is : (y z : ℤ) → FitsSigned w64 y → FitsSigned w64 z → signed_decimal y ≡ signed_decimal z → y ≡ z
-signed_is y z fy fz e = signed_decimal_injective y z (omega (arith, fy.sfits)) (omega (arith, fz.sfits)) e
 
 -- the first word as a number
 abbrev value : List ℕ → ℕ
@@ -116,7 +95,8 @@ same_event e f h k w =
     elim (known_or e) [
       | inl known ↦
           elim (known_or f) [
-            | inl other ↦ one_event (event_line e) e f (record { proper = proper e known h; text = refl }) (record { proper = proper f other k; text = ap line_of w })
+            | inl other ↦ one_event (event_line e) e f (record { proper = proper e known h; text = refl })
+                (record { proper = proper f other k; text = ap line_of w })
             | inr other ↦ absurd (not_unknown e known (head _ _ _ _ w ∙ ap name_of other.1))
           ]
       | inr magic ↦
@@ -130,8 +110,9 @@ same_event e f h k w =
           ]
     ]
 
-same_output : (first second : Output) → FitsTypes first → FitsTypes second → output_words first ≡ output_words second → first ≡ second
-same_output (Sent a b c d e) (Sent a' b' c' d' e') h k w = let same : a ∷ b ∷ c ∷ d ∷ e ∷ [] ≡ a' ∷ b' ∷ c' ∷ d' ∷ e' ∷ [] = same_wide _ _ h k (tail _ _ _ _ w) in cc
+same_output : (first second : Output) → FitsOutputTypes first → FitsOutputTypes second → output_words first ≡ output_words second → first ≡ second
+same_output (Sent a b c d e) (Sent a' b' c' d' e') h k w = let same : a ∷ b ∷ c ∷ d ∷ e ∷ [] ≡ a' ∷ b' ∷ c' ∷ d' ∷ e' ∷ [] =
+    same_wide _ _ h k (tail _ _ _ _ w) in cc
 same_output (Sent a b c d e) second h k w = absurd (apart _ _ (ap name_value w) refl)
 same_output (Ask a b c) (Ask a' b' c') h k w = let same : a ∷ b ∷ c ∷ [] ≡ a' ∷ b' ∷ c' ∷ [] = same_wide _ _ h k (tail _ _ _ _ w) in cc
 same_output (Ask a b c) second h k w = absurd (apart _ _ (ap name_value w) refl)
@@ -145,8 +126,8 @@ same_output (Idr a) (Idr a') h k w = let same : a ∷ [] ≡ a' ∷ [] = same_wi
 same_output (Idr a) second h k w = absurd (apart _ _ (ap name_value w) refl)
 same_output (Ended a b c) (Ended a' b' c') h k w =
     let session : a ≡ a' = decimal_injective a a' h.0 k.0 (cc) in
-    let first : b ≡ b' = signed_is b b' h.1 k.1 (cc) in
-    let last : c ≡ c' = signed_is c c' h.2 k.2 (cc) in
+    let first : b ≡ b' = signed_decimal_once b b' h.1 k.1 (cc) in
+    let last : c ≡ c' = signed_decimal_once c c' h.2 k.2 (cc) in
     cc
 same_output (Ended a b c) second h k w = absurd (apart _ _ (ap name_value w) refl)
 same_output (Input a b e) (Input a' b' e') h k w =
@@ -182,7 +163,7 @@ without_end (x ∷ xs) (y ∷ ys) b e =
     let same : xs ≡ ys = without_end xs ys b others in
     cc
 
-pub one_output : (first second : Output) → FitsTypes first → FitsTypes second → output_line first ≡ output_line second → first ≡ second
+pub one_output : (first second : Output) → FitsOutputTypes first → FitsOutputTypes second → output_line first ≡ output_line second → first ≡ second
 one_output first second h k e =
     let lines : line_of (output_words first) ≡ line_of (output_words second) = without_end _ _ 10 e in
     same_output first second h k (sym (words_are first h) ∙ ap words_of lines ∙ words_are second k)

@@ -3,11 +3,11 @@ use Rattle.std.proofs.Common.{◌≡◌, ◌↔◌, ◌⊎◌, inl, inr, ℕ, �
 use Rattle.std.specs.Prelude.{IfSome, IfNone}
 use Rattle.std.specs.List.{onto_first, slice_split}
 use Rattle.std.specs.Fmt.{decimal}
-use Rattle.std.proofs.lemmas.Fmt.{decimal_injective}
 use Rattle.gs_input.specs.declared.event.Event.{Event}
 use Rattle.gs_input.specs.declared.event.Event.TheVariants as event
 use Rattle.gs_input.specs.Line.{name_of, arguments_of, event_line}
 use Rattle.gs_bytes.specs.Words.{is_space, words_of, line_of}
+use Rattle.gs_bytes.proofs.Decimals.{decimal_once}
 use Rattle.gs_input.proofs.Lines.{one_event}
 use Rattle.gs_schedule.specs.declared.keyword.Keyword.{Keyword}
 use Rattle.gs_schedule.specs.declared.keyword.Keyword.TheVariants as keyword
@@ -101,17 +101,14 @@ window_once words v w (inl h) (inr k) = absurd (let e = h.1 in let f = k.1 in cc
 window_once words v w (inr h) (inl k) = absurd (let e = h.1 in let f = k.1 in cc)
 window_once words v w (inr h) (inr k) = h.0 ∙ sym k.0
 
-number_once : (m n : ℕ) → m < 2 ^ 32 → n < 2 ^ 32 → decimal m ≡ decimal n → m ≡ n
-number_once m n hm hn e = decimal_injective m n (omega arith) (omega arith) e
-
 -- the words behind a keyword say one step
 said_once : (k : Keyword) (words : List (List ℕ)) (first second : Step) → Says k words first → Says k words second → first ≡ second
 said_once keyword.Session words first second h g =
     let same = h.9 in
     let other = g.9 in
-    let p : h.0 ≡ g.0 = number_once _ _ h.6 g.6 (cc) in
-    let q : h.1 ≡ g.1 = number_once _ _ h.7 g.7 (cc) in
-    let m : h.2 ≡ g.2 = number_once _ _ h.8 g.8 (cc) in
+    let p : h.0 ≡ g.0 = decimal_once _ _ h.6 g.6 (cc) in
+    let q : h.1 ≡ g.1 = decimal_once _ _ h.7 g.7 (cc) in
+    let m : h.2 ≡ g.2 = decimal_once _ _ h.8 g.8 (cc) in
     let rest : h.4 ≡ g.4 = cc in
     let w : h.3 ≡ g.3 = window_once g.4 h.3 g.3 (rw (sym rest) h.10) g.10 in
     let e = h.5 in
@@ -135,7 +132,7 @@ said_once keyword.Reset words first second h g = let same : h.0 ∷ [] ≡ g.0 �
 event_once : (words : List (List ℕ)) (s r : ℕ) (e f : Event) → AreWords words (Input s e) → AreWords words (Input r f) → Input s e ≡ Input r f
 event_once words s r e f h g =
     let same : name_of e ∷ decimal s ∷ arguments_of e ≡ name_of f ∷ decimal r ∷ arguments_of f = sym h.2 ∙ g.2 in
-    let session : s ≡ r = number_once s r h.1 g.1 (cc) in
+    let session : s ≡ r = decimal_once s r h.1 g.1 (cc) in
     let line : name_of e ∷ arguments_of e ≡ name_of f ∷ arguments_of f = cc in
     let event : e ≡ f = one_event (event_line e) e f (record { proper = h.0; text = refl }) (record { proper = g.0; text = ap line_of line }) in
     cc

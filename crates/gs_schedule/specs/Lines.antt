@@ -2,6 +2,7 @@
 use Rattle.std.specs.Prelude.{◌≡◌, ◌≢◌, ℕ, ◌+◌, ◌-◌, ◌^◌, ◌<◌, ◌≤◌, ◌⊎◌, ◌==◌, ◌||◌, nat_lt, if◌then◌else◌, ⊤, List, [], ◌∷◌, length, take, drop, Option, Some, None, Result, Ok, Err}
 use Rattle.std.specs.List.{AllByRecursion, onto_first}
 use Rattle.std.specs.Io.KnownBytes.{IsAtEnd, prepend_known}
+use Rattle.gs_schedule.specs.declared.limits.TheConstants.{MOST_LINE}
 use Rattle.gs_schedule.specs.declared.line.Line.{Line}
 use Rattle.gs_schedule.specs.declared.lines_error.LinesError.{LinesError}
 use Rattle.gs_schedule.specs.declared.lines_error.LinesError.TheVariants.{ReadFault, TooLong, OutOfMemory}
@@ -25,7 +26,7 @@ to_come lines left = prepend_known lines.held left
 
 -- the most bytes of a line, without its newline
 abbrev pub most_line : ℕ
-most_line = 64
+most_line = MOST_LINE
 
 -- Behind so many lines, what is given of the lines that are to come: none at the end, the first with its number,
 -- or that number alone, where the line is too long or the number the last of 32 bits.

@@ -15,14 +15,17 @@ counted name numbers = name ∷ map decimal numbers
 
 -- the words of a line
 abbrev pub output_words : Output → List (List ℕ)
-output_words (Sent session frame kind tick reference) = counted (codes "sent") (session ∷ frame ∷ kind ∷ tick ∷ reference ∷ [])
+output_words (Sent session frame kind tick reference) =
+    counted (codes "sent") (session ∷ frame ∷ kind ∷ tick ∷ reference ∷ [])
 output_words (Ask session first last) = counted (codes "ask") (session ∷ first ∷ last ∷ [])
 output_words (Hand session frame kind length) = counted (codes "hand") (session ∷ frame ∷ kind ∷ length ∷ [])
 output_words (Play session unit length) = counted (codes "play") (session ∷ unit ∷ length ∷ [])
 output_words (Invalid session first last) = counted (codes "invalid") (session ∷ first ∷ last ∷ [])
 output_words (Idr session) = counted (codes "idr") (session ∷ [])
-output_words (Ended session first last) = codes "ended" ∷ decimal session ∷ signed_decimal first ∷ signed_decimal last ∷ []
-output_words (Input session channel event) = counted (codes "input") (session ∷ channel ∷ []) ++ name_of event ∷ arguments_of event
+output_words (Ended session first last) = codes "ended" ∷ decimal session ∷ signed_decimal first ∷ signed_decimal last
+    ∷ []
+output_words (Input session channel event) = counted (codes "input") (session ∷ channel ∷ []) ++ name_of event
+    ∷ arguments_of event
 output_words (Full session channel) = counted (codes "full") (session ∷ channel ∷ [])
 output_words (Closed session) = counted (codes "closed") (session ∷ [])
 output_words (Lost session) = counted (codes "lost") (session ∷ [])
@@ -35,21 +38,22 @@ output_words Done = counted (codes "ok") []
 abbrev pub AreWide : List ℕ → Type 0
 AreWide numbers = AllByRecursion (λ n. n < 2 ^ 64) numbers
 
-abbrev pub FitsTypes : Output → Type 0
-FitsTypes (Sent session frame kind tick reference) = AreWide (session ∷ frame ∷ kind ∷ tick ∷ reference ∷ [])
-FitsTypes (Ask session first last) = AreWide (session ∷ first ∷ last ∷ [])
-FitsTypes (Hand session frame kind length) = AreWide (session ∷ frame ∷ kind ∷ length ∷ [])
-FitsTypes (Play session unit length) = AreWide (session ∷ unit ∷ length ∷ [])
-FitsTypes (Invalid session first last) = AreWide (session ∷ first ∷ last ∷ [])
-FitsTypes (Idr session) = AreWide (session ∷ [])
-FitsTypes (Ended session first last) = (session < 2 ^ 64) × FitsSigned w64 first × FitsSigned w64 last
-FitsTypes (Input session channel event) = AreWide (session ∷ channel ∷ []) × EventFits event × HasButton event
-FitsTypes (Full session channel) = AreWide (session ∷ channel ∷ [])
-FitsTypes (Closed session) = AreWide (session ∷ [])
-FitsTypes (Lost session) = AreWide (session ∷ [])
-FitsTypes (Reset session) = AreWide (session ∷ [])
-FitsTypes (Total session frames handed asks inputs units) = AreWide (session ∷ frames ∷ handed ∷ asks ∷ inputs ∷ units ∷ [])
-FitsTypes Done = ⊤
+abbrev pub FitsOutputTypes : Output → Type 0
+FitsOutputTypes (Sent session frame kind tick reference) = AreWide (session ∷ frame ∷ kind ∷ tick ∷ reference ∷ [])
+FitsOutputTypes (Ask session first last) = AreWide (session ∷ first ∷ last ∷ [])
+FitsOutputTypes (Hand session frame kind length) = AreWide (session ∷ frame ∷ kind ∷ length ∷ [])
+FitsOutputTypes (Play session unit length) = AreWide (session ∷ unit ∷ length ∷ [])
+FitsOutputTypes (Invalid session first last) = AreWide (session ∷ first ∷ last ∷ [])
+FitsOutputTypes (Idr session) = AreWide (session ∷ [])
+FitsOutputTypes (Ended session first last) = (session < 2 ^ 64) × FitsSigned w64 first × FitsSigned w64 last
+FitsOutputTypes (Input session channel event) = AreWide (session ∷ channel ∷ []) × EventFits event × HasButton event
+FitsOutputTypes (Full session channel) = AreWide (session ∷ channel ∷ [])
+FitsOutputTypes (Closed session) = AreWide (session ∷ [])
+FitsOutputTypes (Lost session) = AreWide (session ∷ [])
+FitsOutputTypes (Reset session) = AreWide (session ∷ [])
+FitsOutputTypes (Total session frames handed asks inputs units) =
+    AreWide (session ∷ frames ∷ handed ∷ asks ∷ inputs ∷ units ∷ [])
+FitsOutputTypes Done = ⊤
 
 -- the words parted by one space, and a newline
 abbrev pub output_line : Output → List ℕ

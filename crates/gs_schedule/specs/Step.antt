@@ -31,7 +31,8 @@ AreWords words Cap = HasNumbers words (codes "cap") []
 AreWords words (Send session) = HasNumbers words (codes "send") (session ∷ [])
 AreWords words (Video session k) = HasNumbers words (codes "video") (session ∷ k ∷ [])
 AreWords words (Audio session k) = HasNumbers words (codes "audio") (session ∷ k ∷ [])
-AreWords words (Videos session first last) = HasNumbers words (codes "videos") (session ∷ first ∷ last ∷ []) × (first ≤ last)
+AreWords words (Videos session first last) = HasNumbers words (codes "videos") (session ∷ first ∷ last ∷ [])
+    × (first ≤ last)
 AreWords words (Up session k) = HasNumbers words (codes "up") (session ∷ k ∷ [])
 AreWords words (Down session k) = HasNumbers words (codes "down") (session ∷ k ∷ [])
 AreWords words (Input session event) =

@@ -10,6 +10,7 @@
 mod held;
 mod keyword;
 mod laws;
+mod limits;
 mod line;
 mod lines;
 mod lines_error;
@@ -20,6 +21,7 @@ mod step;
 mod step_line;
 
 pub use laws::{line_has_one_output, line_spells_one_step};
+pub use limits::MOST_LINE;
 pub use line::Line;
 pub use lines::Lines;
 pub use lines_error::LinesError;

@@ -6,14 +6,12 @@ ghost use Rattle.gs_bytes.specs.Outside.{Rose, SetsFlag};
 ghost use Rattle.gs_schedule.specs.Lines.{Answers, IsFront, IsUnbroken, LosesLine, lines_of, most_line, newline, next_line, to_come};
 
 use crate::held::Held;
+use crate::limits::MOST_LINE;
 use crate::line::Line;
 use crate::lines_error::LinesError;
 use gs_bytes::{Failed, Source, Text};
 use std::alloc::Global;
 use std::marker::Model;
-
-/// The most bytes of a line, without its newline.
-const MOST_LINE: usize = 64;
 
 /// The place of the first newline.
 fn newline_in(bytes: &[u8]) -> Option<usize>

@@ -11,4 +11,5 @@ returns-in_err-dx-clause-none c =
 pub returns-in_err-x-clause-none : goal.returns-in_err-x-clause-none
 returns-in_err-x-clause-none c =
     let name : c.args.name.now ≡ codes "at" = search rules in
-    rw c.from_residual-in_err-x.ensures (λ event h. let m = place_named c.args.name.now c.args.words event name h in c.in_err-x.ensures.none m.0 m.1 m.2 m.3 m.4)
+    rw c.from_residual-in_err-x.ensures (λ event h. let m = place_named c.args.name.now c.args.words event name h in c.in_err-x.ensures.none m.0 m.1 m.2 m.3
+    m.4)
