@@ -1,7 +1,7 @@
 -- The definitions at small lists, computed.
 use Rattle.std.proofs.Common.{◌≡◌, ℕ, zero, suc, List, [], ◌∷◌, codes, refl, map, Option, Some, None, lit≤}
 use Rattle.std.specs.Fmt.{digits}
-use Rattle.gs_rtsp.specs.declared.addr.Addr.{Addr}
+use Rattle.gs_bytes.specs.declared.addr.Addr.{Addr}
 use Rattle.gs_rtp.specs.declared.settings.Settings.{Settings}
 use Rattle.gs_rtsp_text.specs.declared.header.Header.{Header}
 use Rattle.gs_rtsp_text.specs.declared.message.Method.{Method}

@@ -9,7 +9,7 @@ use Rattle.std.proofs.lemmas.List.{length-replicate}
 use Rattle.gs_rtsp_text.specs.declared.header.Header.{Header}
 use Rattle.gs_rtsp_text.specs.Bytes.{crlf, is_value_byte, is_name_byte, is_sequence_number}
 use Rattle.gs_bytes.specs.Numbers.{is_digit, number_of, decimal_up_to}
-use Rattle.gs_rtsp_text.specs.Lines.{is_cseq, IsHeader, AreHeaderLines, cseq_count, value_by}
+use Rattle.gs_rtsp_text.specs.Lines.{is_cseq, IsHeader, AreHeaderLines, cseq_count, most_body, value_by}
 use Rattle.gs_bytes.specs.Words.{HasNoOuterSpace}
 use Rattle.gs_rtsp_text.specs.Writing.{header_text, head_text}
 use Rattle.gs_bytes.proofs.Decimals.{decimal_digits, decimal_is_decimal, number_of-decimal, decimal_up_to-decimal}
@@ -39,7 +39,8 @@ all_decimal p pass n lt = digits_all p pass (decimal n) (decimal_digits (decimal
 
 all_padded : (p : ℕ → Bool) → ((b : ℕ) → is_digit b ≡ true → p b ≡ true) → (least n : ℕ) → n < 2 ^ 64 → list_all p (padded least n) ≡ true
 unfolding padded
-all_padded p pass least n lt = all-append p (replicate (least - length (decimal n)) 48) (decimal n) (all_zeros p (pass 48 refl) (least - length (decimal n))) (all_decimal p pass n lt)
+all_padded p pass least n lt = all-append p (replicate (least - length (decimal n)) 48) (decimal n) (all_zeros p (pass 48 refl) (least - length (decimal n)))
+    (all_decimal p pass n lt)
 
 digit_is_value : (b : ℕ) → is_digit b ≡ true → is_value_byte b ≡ true
 digit_is_value b e = grind (arith, nat_tests)
@@ -66,10 +67,12 @@ prefix_is_no_space ConnectData = refl
 prefix_is_no_space ContentLength = refl
 
 pub text_is_value : (f : Field) (n : ℕ) → n < 2 ^ 64 → list_all is_value_byte (field_text f n) ≡ true
-text_is_value f n lt = all-append is_value_byte (field_prefix f) (padded (least_digits f) n) (prefix_is_value f) (all_padded is_value_byte digit_is_value (least_digits f) n lt)
+text_is_value f n lt = all-append is_value_byte (field_prefix f) (padded (least_digits f) n) (prefix_is_value f)
+    (all_padded is_value_byte digit_is_value (least_digits f) n lt)
 
 pub text_is_no_space : (f : Field) (n : ℕ) → n < 2 ^ 64 → list_all is_no_space (field_text f n) ≡ true
-text_is_no_space f n lt = all-append is_no_space (field_prefix f) (padded (least_digits f) n) (prefix_is_no_space f) (all_padded is_no_space digit_is_no_space (least_digits f) n lt)
+text_is_no_space f n lt = all-append is_no_space (field_prefix f) (padded (least_digits f) n) (prefix_is_no_space f)
+    (all_padded is_no_space digit_is_no_space (least_digits f) n lt)
 
 -- ---- headers of numbers
 
@@ -113,8 +116,8 @@ field_is_header f n lt = record {
 }
 
 -- the length of a body, read again
-pub length_read : (n : ℕ) → n ≤ 8192 → decimal_up_to 8192 (field_text ContentLength n) ≡ Some n
-length_read n le = ap (decimal_up_to 8192) (padded_one n (omega arith)) ∙ decimal_up_to-decimal 8192 n le (omega arith)
+pub length_read : (n : ℕ) → n ≤ most_body → decimal_up_to most_body (field_text ContentLength n) ≡ Some n
+length_read n le = ap (decimal_up_to most_body) (padded_one n (omega arith)) ∙ decimal_up_to-decimal most_body n le (omega arith)
 
 -- ---- lengths
 

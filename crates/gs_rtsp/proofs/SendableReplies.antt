@@ -14,7 +14,7 @@ use Rattle.gs_bytes.specs.Words.{HasNoOuterSpace}
 use Rattle.gs_rtsp_text.specs.Lines.{IsHeader, cseq_count, body_length}
 use Rattle.gs_rtsp_text.specs.Message.{IsRequest, is_at_most_one}
 use Rattle.gs_rtsp_text.specs.Writing.{status_line_text, AreRightHeaders, IsSendableResponse}
-use Rattle.gs_bytes.proofs.Decimals.{decimal_digits}
+use Rattle.gs_bytes.proofs.Decimals.{decimal_digits, decimal_is_printed}
 use Rattle.gs_bytes.proofs.Lists.{all-append}
 use Rattle.gs_bytes.proofs.Decimals.{digits_all}
 use Rattle.gs_bytes.proofs.SpaceLemmas.{digits_outer}
@@ -23,9 +23,8 @@ use Rattle.gs_rtsp.specs.declared.stream.Stream.{Stream}
 use Rattle.gs_rtsp.specs.declared.stream.Stream.TheVariants.{Audio, Video, Control}
 use Rattle.gs_rtsp.specs.Fields.{field_text, field_header, port_of, data_field}
 use Rattle.gs_rtsp.specs.Reply.{Answer, Unchanged, Described, SetUp, Announced, Playing, Refused, code_of, repeated_sequence, session_header, stream_headers, description, response_by}
-use Rattle.gs_rtsp.specs.Verdicts.{is_code}
+use Rattle.gs_rtsp.specs.Verdicts.{is_answered_code}
 use Rattle.gs_rtsp.proofs.Lengths.{length_description}
-use Rattle.gs_rtsp.proofs.Spelling.{spelled}
 use Rattle.gs_rtsp.proofs.Sendable.{Numbered, numbered, field_is_header, text_is_value, length_read, length_head, length_text, length_name}
 
 -- ---- the repeated number
@@ -48,7 +47,8 @@ repeated_value r n = ap (λ (o : Option (List ℕ)). unwrap_or o []) n.found
 short_sequence : (v : List ℕ) → is_sequence_number v ≡ true → length v ≤ 10
 short_sequence v e =
     let p = sequence_parts v e in
-    omega (arith, ap length (spelled v p.0 (omega (arith, p.1))), length-decimal-le 10 (number_of v) (lit< tt) (omega (arith, p.1)) (omega (arith, p.1)))
+    let text = ap length (decimal_is_printed v p.0 (omega (arith, p.1))) in
+    omega (arith, text, length-decimal-le 10 (number_of v) (lit< tt) (omega (arith, p.1)) (omega (arith, p.1)))
 
 repeated : (r : Request) → Numbered r.headers → Repeated r
 repeated r n =
@@ -85,7 +85,7 @@ session_is_header n lt = record {
 
 -- ---- the status line
 
-codes_are : (c : ℕ) → is_code c ≡ true → (c ≡ 200) ⊎ ((c ≡ 400) ⊎ ((c ≡ 454) ⊎ (c ≡ 455)))
+codes_are : (c : ℕ) → is_answered_code c ≡ true → (c ≡ 200) ⊎ ((c ≡ 400) ⊎ ((c ≡ 454) ⊎ (c ≡ 455)))
 codes_are c e = by_tests (eqb c 200) (eqb c 400) (eqb c 454) (eqb c 455) refl refl refl refl e
   where
     by_tests : (p q r s : Bool) → eqb c 200 ≡ p → eqb c 400 ≡ q → eqb c 454 ≡ r → eqb c 455 ≡ s → (p || q || r || s) ≡ true
@@ -107,7 +107,7 @@ status_length c (inr (inr (inr e))) = subst (λ (k : ℕ). length (status_line_t
 abbrev IsSendableBy : Settings → ℕ → Request → Answer → Type 0
 IsSendableBy offer base r answer = IsSendableResponse (response_by offer base r answer)
 
-plain : (offer : Settings) (base : ℕ) (r : Request) (c : ℕ) → is_code c ≡ true → Repeated r
+plain : (offer : Settings) (base : ℕ) (r : Request) (c : ℕ) → is_answered_code c ≡ true → Repeated r
     → IsSendableResponse (record { code = c; headers = repeated_sequence r ∷ []; body = [] })
 plain offer base r c e n =
     let code = codes_are c e in
@@ -182,7 +182,7 @@ stream_parts session base stream r n ls lb =
 streams : (offer : Settings) (base : ℕ) (stream : Stream) (r : Request) → Repeated r → base ≤ 65000 → IsSendableBy offer base r (SetUp stream)
 streams offer base stream r n lb = record { code = inl refl; headers = stream_parts offer.ssrc base stream r n offer.ssrc_greatest lb }
 
-by_answer : (offer : Settings) (base : ℕ) (r : Request) (answer : Answer) → is_code (code_of answer) ≡ true → base ≤ 65000 → Repeated r
+by_answer : (offer : Settings) (base : ℕ) (r : Request) (answer : Answer) → is_answered_code (code_of answer) ≡ true → base ≤ 65000 → Repeated r
     → IsSendableBy offer base r answer
 by_answer offer base r Unchanged e lb n = plain offer base r 200 refl n
 by_answer offer base r Described e lb n = described offer base r n
@@ -191,7 +191,7 @@ by_answer offer base r Announced e lb n = plain offer base r 200 refl n
 by_answer offer base r Playing e lb n = plain offer base r 200 refl n
 by_answer offer base r (Refused c) e lb n = plain offer base r c e n
 
-pub is_sendable : (offer : Settings) (base : ℕ) (r : Request) (answer : Answer) (bytes : List ℕ) → is_code (code_of answer) ≡ true → base ≤ 65000
+pub is_sendable : (offer : Settings) (base : ℕ) (r : Request) (answer : Answer) (bytes : List ℕ) → is_answered_code (code_of answer) ≡ true → base ≤ 65000
     → IsRequest bytes r → IsSendableBy offer base r answer
 is_sendable offer base r answer bytes e lb q =
     let some : 0 < cseq_count r.headers = grind (arith, nat_tests, q.is_head.sequence) in

@@ -3,8 +3,8 @@ use Rattle.std.proofs.Common.{◌≡◌, ℕ, ◌+◌, ◌/◌, ◌%◌, ◌^◌
 use Rattle.std.specs.Prelude.{decimal}
 use Rattle.std.specs.List.{list_all}
 use Rattle.std.proofs.lemmas.Bool.Decides.{nat_tests}
-use Rattle.std.proofs.lemmas.Fmt.{length-decimal-le}
-use Rattle.gs_rtsp.specs.declared.addr.Addr.{Addr}
+use Rattle.gs_bytes.proofs.Decimals.{length-decimal_most}
+use Rattle.gs_bytes.specs.declared.addr.Addr.{Addr}
 use Rattle.gs_rtp.specs.Stream.{StreamSettings}
 use Rattle.gs_rtsp_text.specs.declared.header.Header.{Header}
 use Rattle.gs_rtsp_text.specs.declared.message.Method.{Method}
@@ -54,18 +54,15 @@ record Target (s : List ℕ) : Type 0 where
   each : AreTargetBytes s
   short : length s ≤ 100
 
-short_digits : (n : ℕ) → n < 2 ^ 32 → length (decimal n) ≤ 10
-short_digits n lt = length-decimal-le 10 n (lit< tt) (omega arith) (omega arith)
-
 length_dotted : (a : List ℕ) (n : ℕ) → n < 2 ^ 32 → length (a ++ codes "." ++ decimal n) ≤ length a + 11
-length_dotted a n lt = omega (arith, length-append (a ++ codes ".") (decimal n), length-append a (codes "."), short_digits n lt)
+length_dotted a n lt = omega (arith, length-append (a ++ codes ".") (decimal n), length-append a (codes "."), length-decimal_most n lt)
 
 length_host : (ip : ℕ) → ip < 2 ^ 32 → length (host_text ip) ≤ 43
 length_host ip lt =
     let a = decimal (ip / 2 ^ 24) in
     let b = a ++ codes "." ++ decimal (ip / 2 ^ 16 % 2 ^ 8) in
     let c = b ++ codes "." ++ decimal (ip / 2 ^ 8 % 2 ^ 8) in
-    let la : length a ≤ 10 = short_digits (ip / 2 ^ 24) (omega arith) in
+    let la : length a ≤ 10 = length-decimal_most (ip / 2 ^ 24) (omega arith) in
     let lb : length b ≤ 21 = omega (arith, length_dotted a (ip / 2 ^ 16 % 2 ^ 8) (omega arith)) in
     let lc : length c ≤ 32 = omega (arith, length_dotted b (ip / 2 ^ 8 % 2 ^ 8) (omega arith)) in
     omega (arith, length_dotted c (ip % 2 ^ 8) (omega arith))
@@ -77,7 +74,7 @@ length_url host li lp = omega (
   length-append (codes "rtsp://" ++ host_text host.ip) (codes ":"),
   length-append (codes "rtsp://") (host_text host.ip),
   length_host host.ip li,
-  short_digits host.port (omega arith),
+  length-decimal_most host.port (omega arith),
 )
 
 url_target : (host : Addr) → host.ip < 2 ^ 32 → host.port < 2 ^ 16 → Target (url_of host)
@@ -185,5 +182,6 @@ is_sendable host s number question li lp ln ls lb =
     let t = target host question li lp in
     record {
       target = (t.some, t.each);
-      headers = right_by (leb 4 number) (request_line_text (method_of question) (target_of host question)) number s (request_body s question) (length_first (method_of question) (target_of host question) t.short) ln ls lb;
+      headers = right_by (leb 4 number) (request_line_text (method_of question) (target_of host question)) number s (request_body s question)
+          (length_first (method_of question) (target_of host question) t.short) ln ls lb;
     }

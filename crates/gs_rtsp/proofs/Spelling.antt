@@ -4,12 +4,10 @@ use Rattle.std.specs.Prelude.{decimal, option_and_then, nat_eq, IfSome}
 use Rattle.std.specs.List.{list_all, starts_with}
 use Rattle.std.proofs.lemmas.Bool.{false≢true}
 use Rattle.std.proofs.lemmas.Bool.Decides.{nat_tests, Decides-eqb}
-use Rattle.std.proofs.lemmas.Fmt.{decimal-digits_value}
 use Rattle.std.proofs.lemmas.List.{length-replicate}
 use Rattle.std.proofs.lemmas.Slice.Eq.{starts_is}
-use Rattle.std.proofs.lemmas.Str.Parse.{IsDigitsTest, FoldsDigits, IsNumeralModel, numerals_by_fold}
 use Rattle.gs_bytes.specs.Numbers.{is_digit, is_decimal, number_from, number_of, decimal_up_to}
-use Rattle.gs_bytes.proofs.Decimals.{decimal_digits, decimal_is_decimal, decimal_up_to-decimal}
+use Rattle.gs_bytes.proofs.Decimals.{decimal_digits, decimal_is_decimal, decimal_is_printed, decimal_up_to-decimal}
 use Rattle.gs_sdp.specs.Lines.{behind}
 use Rattle.gs_rtsp.specs.declared.field.Field.{Field}
 use Rattle.gs_rtsp.specs.declared.field.Field.TheVariants.{Sequence, ClientVersion, Session, Port, PingPayload, ConnectData, ContentLength}
@@ -17,34 +15,9 @@ use Rattle.gs_rtsp.specs.Fields.{field_prefix, field_text, field_number, least_d
 
 -- ---- decimal digits
 
-abbrev AreDigits : List ℕ → Type 0
-AreDigits ds = list_all is_digit ds ≡ true
-
-digits_test : IsDigitsTest AreDigits
-digits_test = record {
-  empty = refl;
-  parts = λ c cs h. ((grind (arith, nat_tests, h), grind (arith, nat_tests, h)), grind (arith, h));
-  more = λ c cs r h. grind (arith, nat_tests, h);
-}
-
-digits_fold : FoldsDigits number_from
-digits_fold = record { empty = λ n. refl; more = λ n c cs r. ap (λ (k : ℕ). number_from (k + (c - 48)) cs) (omega arith) }
-
-numerals : IsNumeralModel AreDigits number_of
-numerals = numerals_by_fold AreDigits digits_test number_from digits_fold
-
 is_nonempty : (ds : List ℕ) → is_decimal ds ≡ true → 0 < length ds
 is_nonempty [] e = absurd (false≢true e)
 is_nonempty (d ∷ ds) e = omega arith
-
-leads_alone : (ds : List ℕ) → is_decimal ds ≡ true → get_or ds 0 0 ≡ 48 → length ds ≡ 1
-leads_alone [] e h = absurd (false≢true e)
-leads_alone (d ∷ []) e h = refl
-leads_alone (d ∷ c ∷ ds) e h = absurd (grind (arith, nat_tests, e, h))
-
--- decimal digits are what is written of their number
-pub spelled : (ds : List ℕ) → is_decimal ds ≡ true → number_of ds < 2 ^ 64 → ds ≡ decimal (number_of ds)
-spelled ds e lt = sym (decimal-digits_value numerals ds (decimal_digits ds e) (is_nonempty ds e) (leads_alone ds e) lt)
 
 abbrev number_if : Bool → ℕ → Option ℕ
 number_if t n = cond t (Some n) None
@@ -63,7 +36,7 @@ pub is_written : (most n : ℕ) (ds : List ℕ) → most < 2 ^ 64 → decimal_up
 is_written most n ds lt e =
     let p = up_to_parts most n ds e in
     let small : number_of ds < 2 ^ 64 = omega (arith, p.1, p.2) in
-    spelled ds p.0 small ∙ ap decimal p.1
+    decimal_is_printed ds p.0 small ∙ ap decimal p.1
 
 -- ---- zeros before it
 

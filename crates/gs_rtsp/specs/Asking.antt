@@ -1,6 +1,8 @@
 -- What a client asks, what its replies must have, and what they tell.
 use Rattle.std.specs.Prelude.{◌≡◌, ℕ, ◌+◌, ◌-◌, ◌/◌, ◌%◌, ◌^◌, Bool, true, false, ◌&&◌, ◌||◌, ◌==◌, nat_le, List, [], ◌∷◌, ◌++◌, length, codes, decimal, Option, Some, None, is_some, unwrap_or, option_map, option_and_then, slice_get, Result, Ok, Err, if◌then◌else◌, ⊤}
-use Rattle.gs_rtsp.specs.declared.addr.Addr.{Addr}
+use Rattle.gs_bytes.specs.declared.addr.Addr.{Addr}
+use Rattle.gs_bytes.specs.Limits.{most_audio}
+use Rattle.gs_rtp.specs.Limits.{short_duration, long_duration, least_ssrc, most_ssrc}
 use Rattle.gs_rtp.specs.declared.settings.Settings.{Settings}
 use Rattle.gs_rtp.specs.Stream.{StreamSettings, numbers_of}
 use Rattle.gs_rtsp_text.specs.declared.header.Header.{Header}
@@ -43,12 +45,12 @@ number_of Play = 7
 -- the duration of an audio unit that a description names
 abbrev pub duration_in : List ℕ → Option ℕ
 duration_in body =
-    option_and_then (λ n. if n == 5 || n == 10 then Some n else None)
-    (option_and_then (decimal_up_to 10) (last_value (name_of names.Duration) body))
+    option_and_then (λ n. if n == short_duration || n == long_duration then Some n else None)
+    (option_and_then (decimal_up_to long_duration) (last_value (name_of names.Duration) body))
 
 -- the length of an audio unit that a description names
 abbrev pub audio_in : List ℕ → Option ℕ
-audio_in body = option_and_then (decimal_up_to 1400) (last_value (codes "x-gs-audio.length") body)
+audio_in body = option_and_then (decimal_up_to most_audio) (last_value (codes "x-gs-audio.length") body)
 
 abbrev pub session_in : List Header → Option ℕ
 session_in hs = header_number fields.Session hs
@@ -154,7 +156,8 @@ request_for host s number question = record {
 
 -- the session's number is in its limits, and at the second and third set-up it is that of the first
 abbrev pub is_session : ℕ → Stream → ℕ → Bool
-is_session agreed_on stream n = nat_le 1 n && nat_le n 9999 && (is_same_stream stream Audio || n == agreed_on)
+is_session agreed_on stream n =
+    nat_le least_ssrc n && nat_le n most_ssrc && (is_same_stream stream Audio || n == agreed_on)
 
 -- what the reply to a set-up must have, by the session that it names
 abbrev pub names_stream : ℕ → ℕ → Stream → List Header → Option ℕ → Bool
@@ -209,15 +212,15 @@ next_request want host replies =
 
 -- What is to be done behind these replies: the first fault is told again and again; without one the next request
 -- is asked, and behind the last reply the settings are agreed on. Want of memory is free.
-abbrev pub IsNext : Settings → Addr → List Response → Result Step SetupError → Type 0
-IsNext want host replies (Ok (Ask request)) =
+abbrev pub IsNextAnswer : Settings → Addr → List Response → Result Step SetupError → Type 0
+IsNextAnswer want host replies (Ok (Ask request)) =
     (first_fault want host replies ≡ None) × (next_request want host replies ≡ Some request)
-IsNext want host replies (Ok (Ready s)) =
+IsNextAnswer want host replies (Ok (Ready s)) =
     (first_fault want host replies ≡ None) × (length replies ≡ length questions)
     × (numbers_of s ≡ agreed want replies)
-IsNext want host replies (Err (errors.Refused code)) = first_fault want host replies ≡ Some (Refused code)
-IsNext want host replies (Err (errors.BadReply number)) = first_fault want host replies ≡ Some (BadReply number)
-IsNext want host replies (Err errors.OutOfMemory) = ⊤
+IsNextAnswer want host replies (Err (errors.Refused code)) = first_fault want host replies ≡ Some (Refused code)
+IsNextAnswer want host replies (Err (errors.BadReply number)) = first_fault want host replies ≡ Some (BadReply number)
+IsNextAnswer want host replies (Err errors.OutOfMemory) = ⊤
 
 -- the replies with one more
 abbrev pub with_reply : Option Response → List Response → List Response

@@ -112,8 +112,8 @@ abbrev pub names_other_session : ℕ → List Header → Bool
 names_other_session number hs = is_some (value_by (codes "Session") hs) && not (names_session number hs)
 
 -- each of the four settings is one, or missing
-abbrev pub are_settings : Settings → List ℕ → Bool
-are_settings offer body =
+abbrev pub names_settings : Settings → List ℕ → Bool
+names_settings offer body =
     is_some (setting PacketSize body offer) && is_some (setting MaxFps body offer)
     && is_some (setting Minimum body offer) && is_some (setting Duration body offer)
 
@@ -139,7 +139,7 @@ answer_by offer past method r = first_row (
     ∷ (is_method method Announce && not (are_all_set_up past), Refused 455)
     ∷ (is_method method Play && is_none (announced_body past), Refused 455)
     ∷ (not (names_session offer.ssrc r.headers), Refused 454)
-    ∷ (is_method method Announce && not (are_settings offer r.body), Refused 400)
+    ∷ (is_method method Announce && not (names_settings offer r.body), Refused 400)
     ∷ (is_method method Announce, Announced)
     ∷ []) Playing
 

@@ -1,6 +1,6 @@
 -- The lists that a server and a set-up stand for.
 use Rattle.std.specs.Prelude.{◌≡◌, ℕ, suc, Bool, true, false, ◌⊎◌, List, [], length, Option, None, Some, Result, Ok, Err, ⊤, ◌+◌, option_map, slice_get, MatchOption}
-use Rattle.gs_rtsp.specs.declared.addr.Addr.{Addr}
+use Rattle.gs_bytes.specs.declared.addr.Addr.{Addr}
 use Rattle.gs_rtp.specs.declared.settings.Settings.{Settings}
 use Rattle.gs_rtp.specs.Stream.{numbers_of}
 use Rattle.gs_rtsp_text.specs.declared.message.Request.{Request}
@@ -64,10 +64,10 @@ IsJudged want host replies (Ok s) = (first_fault want host replies ≡ None) × 
 IsJudged want host replies (Err fault) = first_fault want host replies ≡ Some fault
 
 -- with these settings the next request is asked, or there is none left
-abbrev pub IsStep : Addr → ℕ → Settings → Step → Type 0
-IsStep host asked s (Ask request) =
+abbrev pub IsStepAfter : Addr → ℕ → Settings → Step → Type 0
+IsStepAfter host asked s (Ask request) =
     option_map (request_for host (numbers_of s) (asked + 1)) (slice_get questions asked) ≡ Some request
-IsStep host asked s (Ready t) = (asked ≡ length questions) × (t ≡ s)
+IsStepAfter host asked s (Ready t) = (asked ≡ length questions) × (t ≡ s)
 
 -- the reply is one more of those that the set-up stands for
 abbrev pub Takes : Setup → Setup → Option Response → Type 0

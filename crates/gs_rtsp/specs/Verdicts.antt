@@ -40,8 +40,8 @@ pub record IsVerdict (offer : Settings) (past : List Answered) (r : Request) (v 
   pub settings : HasSettings offer past r v
 
 -- the codes that a response has
-abbrev pub is_code : ℕ → Bool
-is_code code = code == 200 || code == 400 || code == 454 || code == 455
+abbrev pub is_answered_code : ℕ → Bool
+is_answered_code code = code == 200 || code == 400 || code == 454 || code == 455
 
 abbrev pub has_code : Verdict → Bool
-has_code v = is_code (code_of (answer_of v))
+has_code v = is_answered_code (code_of (answer_of v))

@@ -14,7 +14,6 @@
 //! - Where a request was read from bytes, its response can be written; each request of a set-up can.
 #![tactic(auto)]
 
-mod addr;
 mod field;
 mod header;
 mod question;
@@ -27,7 +26,6 @@ mod stream;
 mod told;
 mod verdict;
 
-pub use addr::Addr;
 pub use field::Field;
 pub use server::Server;
 pub use setup::Setup;

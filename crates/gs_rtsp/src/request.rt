@@ -5,11 +5,10 @@ ghost use Rattle.gs_rtp.specs.Stream.{numbers_of};
 ghost use Rattle.gs_rtsp_text.specs.Writing.{IsSendableRequest};
 ghost use Rattle.gs_rtsp.specs.Asking.{host_text, url_of, target_of, request_body, session_part, length_part, request_headers, request_for};
 
-use crate::addr::Addr;
 use crate::field::Field;
 use crate::header::push_field;
 use crate::question::Question;
-use gs_bytes::{OutOfMemory, Text};
+use gs_bytes::{Addr, OutOfMemory, Text};
 use gs_rtp::Settings;
 use gs_rtsp_text::{Header, Headers, Request};
 use gs_sdp::body_of;

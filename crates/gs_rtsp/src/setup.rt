@@ -1,11 +1,10 @@
 //! The client's end.
 
-use crate::addr::Addr;
 use crate::question::{COUNT, Question};
 use crate::request::request;
 use crate::step::{Fault, SetupError, Step};
 use crate::told::judged;
-use gs_bytes::OutOfMemory;
+use gs_bytes::{Addr, OutOfMemory};
 use gs_rtp::Settings;
 use gs_rtsp_text::Response;
 use std::alloc::Global;
@@ -33,11 +32,11 @@ ghost use Rattle.std.specs.Prelude.{◌≤◌};
 impl Setup {
     ghost use Rattle.std.specs.Prelude.{◌≡◌, ◌+◌, List, [], Result, Err, None, IfOk, OnOk, OnErr, is_some, nat_lt};
     ghost use Rattle.std.specs.Option.{option_copied};
-    ghost use Rattle.gs_rtsp.specs.declared.addr.Addr.{Addr};
+    ghost use Rattle.gs_bytes.specs.declared.addr.Addr.{Addr};
     ghost use Rattle.gs_rtp.specs.declared.settings.Settings.{Settings};
     ghost use Rattle.gs_rtsp_text.specs.declared.message.Response.{Response};
-    ghost use Rattle.gs_rtsp.specs.Asking.{IsNext, with_reply};
-    ghost use Rattle.gs_rtsp.specs.Standing.{asked_of, Asks, IsJudged, IsStep, Leaves, IfAsk};
+    ghost use Rattle.gs_rtsp.specs.Asking.{IsNextAnswer, with_reply};
+    ghost use Rattle.gs_rtsp.specs.Standing.{asked_of, Asks, IsJudged, IsStepAfter, Leaves, IfAsk};
     ghost use Rattle.gs_rtsp_text.specs.Writing.{IsSendableRequest};
 
     /// A set-up that wants these settings of a host, by the address of its RTSP port.
@@ -80,7 +79,7 @@ impl Setup {
     /// What is done next with these settings.
     fn step(&self, alloc: Global, settings: Settings) -> Result<Step, OutOfMemory>
         requires { asked_of self.now ≤ 7 }
-        ensures step { IfOk result (IsStep self.now.host self.now.asked settings) }
+        ensures step { IfOk result (IsStepAfter self.now.host self.now.asked settings) }
         ensures sendable { IfOk result (λ step. IfAsk step IsSendableRequest) }
     {
         if self.asked == COUNT {
@@ -98,7 +97,7 @@ impl Setup {
         requires open { asked_of self.old ≤ 7 }
         ensures next { (want : Settings) (host : Addr) (replies : List Response)
             → Asks self.old want host replies
-            → IsNext want host (with_reply (option_copied reply.entry) replies) result }
+            → IsNextAnswer want host (with_reply (option_copied reply.entry) replies) result }
         ensures stands { Leaves self.old self.new (option_copied reply.entry) result }
         ensures asked { OnOk result (asked_of self.new ≡ asked_of self.old + 1) }
         ensures same { OnErr result (asked_of self.new ≡ asked_of self.old) }

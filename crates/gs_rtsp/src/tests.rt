@@ -5,8 +5,7 @@ ghost use Rattle.gs_rtsp_text.specs.Writing.{IsSendableRequest};
 ghost use Rattle.gs_rtsp.specs.Standing.{asked_of, IfAsk};
 
 use super::*;
-use crate::Addr;
-use gs_bytes::Text;
+use gs_bytes::{Addr, Text};
 use gs_rtp::Settings;
 use gs_rtsp_text::{
     Read, Request, Response, read_request, read_response, write_request, write_response,

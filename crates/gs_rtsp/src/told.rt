@@ -10,29 +10,18 @@ use crate::response::AUDIO_LENGTH;
 use crate::step::Fault;
 use crate::stream::Stream;
 use crate::verdict::OK;
-use gs_bytes::parse_number;
-use gs_rtp::Settings;
+use gs_bytes::{MOST_AUDIO, parse_number};
+use gs_rtp::{DURATION_LONG, DURATION_SHORT, SSRC_GREATEST, SSRC_LEAST, Settings};
 use gs_rtsp_text::{Headers, Response};
 use gs_sdp::{SettingName, last_value};
-
-/// The durations of an audio unit, in milliseconds.
-const DURATION_SHORT: u32 = 5;
-
-const DURATION_LONG: u32 = 10;
-
-/// The greatest length of an audio unit, in bytes.
-const AUDIO_GREATEST: u32 = 1_400;
-
-/// The greatest number of a session.
-const SESSION_GREATEST: u32 = 9_999;
 
 /// The duration of an audio unit that a description names.
 fn duration_in(body: &[u8]) -> Option<u32>
     ensures { result ≡ duration_of body.now }
 {
     let value = last_value(body, SettingName::Duration.attribute())?;
-    let duration = parse_number(value, DURATION_LONG)?;
-    if duration == DURATION_SHORT || duration == DURATION_LONG {
+    let duration = parse_number(value, u32::from(DURATION_LONG))?;
+    if duration == u32::from(DURATION_SHORT) || duration == u32::from(DURATION_LONG) {
         Some(duration)
     } else {
         None
@@ -44,7 +33,7 @@ fn audio_in(body: &[u8]) -> Option<u32>
     ensures { result ≡ audio_of body.now }
 {
     let value = last_value(body, AUDIO_LENGTH)?;
-    parse_number(value, AUDIO_GREATEST)
+    parse_number(value, u32::from(MOST_AUDIO))
 }
 
 fn described(settings: &Settings, body: &[u8]) -> Option<Settings>
@@ -71,7 +60,8 @@ fn described(settings: &Settings, body: &[u8]) -> Option<Settings>
 fn is_session(agreed_on: u32, stream: Stream, session: u32) -> bool
     ensures { result ≡ is_session_of agreed_on stream session }
 {
-    (1..=SESSION_GREATEST).contains(&session) && (stream == Stream::Audio || session == agreed_on)
+    (SSRC_LEAST..=SSRC_GREATEST).contains(&session)
+        && (stream == Stream::Audio || session == agreed_on)
 }
 
 fn set_up(settings: &Settings, base: u16, stream: Stream, headers: &Headers) -> Option<Settings>

@@ -1,19 +1,11 @@
 -- What a reader returned, once it is known which answer it is and that this answer is right.
-use Rattle.std.proofs.Common.{◌≡◌, ℕ, ◌≤◌, Bool, List, length, Result, Ok, Err, subst}
-use Rattle.gs_rtsp_text.specs.declared.header.Header.{Header}
-use Rattle.gs_rtsp_text.specs.declared.stop.Stop.{Stop}
-use Rattle.gs_rtsp_text.specs.declared.stop.Stop.TheVariants.{More as stop_more, Bad}
-use Rattle.gs_rtsp_text.specs.declared.stop.ReadError.{ReadError}
-use Rattle.gs_rtsp_text.specs.declared.stop.ReadError.TheVariants as read_errors
+use Rattle.std.proofs.Common.{◌≡◌, ℕ, Bool, List, Result, Ok, Err, subst}
 use Rattle.gs_rtsp_text.specs.declared.message.Read.{Read}
 use Rattle.gs_rtsp_text.specs.declared.message.Read.TheVariants as reads
 use Rattle.gs_rtsp_text.specs.declared.message.TextError.{TextError}
 use Rattle.gs_rtsp_text.specs.declared.message.TextError.TheVariants as errors
 use Rattle.gs_rtsp_text.specs.Message.{Message, Answer, Answers, IfWhole, IsAnswer, IsWhole, IsBadPlace, IsOpen}
-use Rattle.gs_rtsp_text.specs.Reading.{Gives, ReadsWithin, head_by}
 use Rattle.gs_rtsp_text.specs.Laws.{HasOneAnswer}
-use Rattle.gs_rtsp_text.proofs.Parts.{IsCode, Meets}
-use Rattle.gs_rtsp_text.proofs.Decided.{read_rest_within, read_left_within}
 
 abbrev ok : {T : Type 0} → Read T → Result (Read T) TextError
 ok r = Ok r
@@ -22,24 +14,21 @@ abbrev err : {T : Type 0} → TextError → Result (Read T) TextError
 err {T} e = Err e
 
 module _ {T S : Type 0} (IsFirstLine : List ℕ → S → Type 0) (may_have : ℕ → Bool) (view : T → Message S) (bytes : List ℕ) where
-  pub whole_from : (r : Result (Read T) TextError) (a : Answer S) → Answers view r a → IsAnswer IsFirstLine may_have bytes a → IfWhole r (λ value used. IsWhole IsFirstLine may_have bytes (view value) used)
+  pub whole_from : (r : Result (Read T) TextError) (a : Answer S) → Answers view r a → IsAnswer IsFirstLine may_have bytes a
+      → IfWhole r (λ value used. IsWhole IsFirstLine may_have bytes (view value) used)
   whole_from (Ok (reads.Whole value used)) a e h = subst (IsAnswer IsFirstLine may_have bytes) e h
   whole_from (Ok reads.More) a e h = tt
   whole_from (Err e) a f h = tt
 
-  pub bad_text_from : (r : Result (Read T) TextError) (a : Answer S) → Answers view r a → IsAnswer IsFirstLine may_have bytes a → (place : ℕ) → r ≡ err (errors.BadText place) → IsBadPlace IsFirstLine may_have bytes place
-  bad_text_from r a e h place is = subst (IsAnswer IsFirstLine may_have bytes) (let P : Result (Read T) TextError → Type 0 = λ x. Answers view x a in subst P is e) h
+  pub bad_text_from : (r : Result (Read T) TextError) (a : Answer S) → Answers view r a → IsAnswer IsFirstLine may_have bytes a → (place : ℕ)
+      → r ≡ err (errors.BadText place) → IsBadPlace IsFirstLine may_have bytes place
+  bad_text_from r a e h place is = subst (IsAnswer IsFirstLine may_have bytes)
+      (let P : Result (Read T) TextError → Type 0 = λ x. Answers view x a in subst P is e) h
 
-  pub more_from : (r : Result (Read T) TextError) (a : Answer S) → Answers view r a → IsAnswer IsFirstLine may_have bytes a → r ≡ ok reads.More → IsOpen IsFirstLine may_have bytes
+  pub more_from : (r : Result (Read T) TextError) (a : Answer S) → Answers view r a → IsAnswer IsFirstLine may_have bytes a → r ≡ ok reads.More
+      → IsOpen IsFirstLine may_have bytes
   more_from r a e h is = subst (IsAnswer IsFirstLine may_have bytes) (let P : Result (Read T) TextError → Type 0 = λ x. Answers view x a in subst P is e) h
 
-  pub only_from : HasOneAnswer IsFirstLine may_have → (r : Result (Read T) TextError) (a : Answer S) → Answers view r a → IsAnswer IsFirstLine may_have bytes a → (b : Answer S) → IsAnswer IsFirstLine may_have bytes b → Answers view r b
+  pub only_from : HasOneAnswer IsFirstLine may_have → (r : Result (Read T) TextError) (a : Answer S) → Answers view r a → IsAnswer IsFirstLine may_have bytes a
+      → (b : Answer S) → IsAnswer IsFirstLine may_have bytes b → Answers view r b
   only_from one r a e h b k = subst (Answers view r) (one bytes a b h k) e
-
--- what reading the head left, and where it stopped, lies within the bytes
-module _ {X S : Type 0} (IsFirstLine : List ℕ → S → Type 0) (may_have : ℕ → Bool) (code : IsCode IsFirstLine) (first : List ℕ → Result (S × List ℕ) Stop) (meets : (s : List ℕ) → Meets IsFirstLine s (first s)) where
-  pub within_from : (view : X → (S × (List Header × ℕ)) × List ℕ) (rest : X → List ℕ) (s : List ℕ) (r : Result X ReadError) → ((x : X) → (view x).1 ≡ rest x) → Gives view r (head_by first may_have s) → ReadsWithin rest s r
-  within_from view rest s (Ok x) is g = subst (λ (u : List ℕ). length u ≤ length s) (is x) (read_rest_within IsFirstLine may_have code first meets s (view x) g)
-  within_from view rest s (Err read_errors.OutOfMemory) is g = tt
-  within_from view rest s (Err (read_errors.Stop stop_more)) is g = tt
-  within_from view rest s (Err (read_errors.Stop (Bad left))) is g = read_left_within IsFirstLine may_have code first meets s left g

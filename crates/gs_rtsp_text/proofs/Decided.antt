@@ -11,7 +11,7 @@ use Rattle.gs_rtsp_text.specs.declared.stop.Stop.{Stop}
 use Rattle.gs_rtsp_text.specs.declared.stop.Stop.TheVariants.{More as stop_more, Bad}
 use Rattle.gs_rtsp_text.specs.Bytes.{crlf}
 use Rattle.gs_rtsp_text.specs.Lines.{AreHeaderLines, body_length}
-use Rattle.gs_rtsp_text.specs.Message.{Message, Whole, BadText, More, AreLines, IsHead, HasHead, CanBegin, GoesWrongAt, IsBadPlace, IsMessage, IsWhole, IsAnswer, head_limit}
+use Rattle.gs_rtsp_text.specs.Message.{Message, Whole, BadText, More, AreLines, IsHead, HasHead, CanBegin, GoesWrongAt, IsBadPlace, IsMessage, IsWhole, IsAnswer, most_head}
 use Rattle.gs_rtsp_text.specs.Reading.{answer_by, place_answer, head_by}
 use Rattle.gs_rtsp_text.specs.Laws.{HasOneAnswer, Stays, IsSameInPieces}
 use Rattle.gs_rtsp_text.proofs.Parts.{IsCode, Meets, append-cancel}
@@ -22,14 +22,21 @@ use Rattle.gs_rtsp_text.proofs.Heads.{HeadTaken, HeadOpens, HeadStops, MeetsHead
 -- header lines before an empty line are those of one list of headers
 lines_same : (hs is : List Header) (a b x y : List ℕ) → AreHeaderLines a hs → AreHeaderLines b is → a ++ (crlf ++ x) ≡ b ++ (crlf ++ y) → (a ≡ b) × (hs ≡ is)
 lines_same [] [] a b x y p q e = (p ∙ sym q, refl)
-lines_same [] (i ∷ is) a b x y p q e = absurd (line_no_crlf (λ n. true) q.0 (q.1 ++ (crlf ++ y)) x i q.2 (sym (append_assoc q.0 q.1 (crlf ++ y)) ∙ ap (λ (u : List ℕ). u ++ (crlf ++ y)) (sym q.4) ∙ sym e ∙ ap (λ (u : List ℕ). u ++ (crlf ++ x)) p))
-lines_same (h ∷ hs) [] a b x y p q e = absurd (line_no_crlf (λ n. true) p.0 (p.1 ++ (crlf ++ x)) y h p.2 (sym (append_assoc p.0 p.1 (crlf ++ x)) ∙ ap (λ (u : List ℕ). u ++ (crlf ++ x)) (sym p.4) ∙ e ∙ ap (λ (u : List ℕ). u ++ (crlf ++ y)) q))
+lines_same [] (i ∷ is) a b x y p q e = absurd (line_no_crlf (λ n. true) q.0 (q.1 ++ (crlf ++ y)) x i q.2
+    (sym (append_assoc q.0 q.1 (crlf ++ y)) ∙ ap (λ (u : List ℕ). u ++ (crlf ++ y)) (sym q.4) ∙ sym e ∙ ap (λ (u : List ℕ). u ++ (crlf ++ x)) p))
+lines_same (h ∷ hs) [] a b x y p q e = absurd (line_no_crlf (λ n. true) p.0 (p.1 ++ (crlf ++ x)) y h p.2
+    (sym (append_assoc p.0 p.1 (crlf ++ x)) ∙ ap (λ (u : List ℕ). u ++ (crlf ++ x)) (sym p.4) ∙ e ∙ ap (λ (u : List ℕ). u ++ (crlf ++ y)) q))
 lines_same (h ∷ hs) (i ∷ is) a b x y p q e =
-    let whole : p.0 ++ (p.1 ++ (crlf ++ x)) ≡ q.0 ++ (q.1 ++ (crlf ++ y)) = sym (append_assoc p.0 p.1 (crlf ++ x)) ∙ ap (λ (u : List ℕ). u ++ (crlf ++ x)) (sym p.4) ∙ e ∙ ap (λ (u : List ℕ). u ++ (crlf ++ y)) q.4 ∙ append_assoc q.0 q.1 (crlf ++ y) in
+    let whole : p.0 ++ (p.1 ++ (crlf ++ x)) ≡ q.0 ++ (q.1 ++ (crlf ++ y)) =
+    sym (append_assoc p.0 p.1 (crlf ++ x)) ∙ ap (λ (u : List ℕ). u ++ (crlf ++ x)) (sym p.4) ∙ e ∙ ap (λ (u : List ℕ). u ++ (crlf ++ y)) q.4
+    ∙ append_assoc q.0 q.1 (crlf ++ y) in
     let first = header_code p.0 q.0 (p.1 ++ (crlf ++ x)) (q.1 ++ (crlf ++ y)) h i p.2 q.2 whole in
     let tail = append-cancel p.0 (p.1 ++ (crlf ++ x)) (q.1 ++ (crlf ++ y)) (whole ∙ ap (λ (u : List ℕ). u ++ (q.1 ++ (crlf ++ y))) (sym first.0)) in
-    let rest = lines_same hs is p.1 q.1 x y p.3 q.3 tail in
-    (p.4 ∙ ap (λ (u : List ℕ). u ++ p.1) first.0 ∙ ap (λ (u : List ℕ). q.0 ++ u) rest.0 ∙ sym q.4, ap (λ (k : Header). k ∷ hs) first.1 ∙ ap (λ (ks : List Header). i ∷ ks) rest.1)
+    let rest = lines_same hs is p.1 q.1 x y p.3 q.3 tail in (
+      p.4 ∙ ap (λ (u : List ℕ). u ++ p.1) first.0 ∙ ap (λ (u : List ℕ). q.0 ++ u) rest.0 ∙ sym q.4,
+      ap (λ (k : Header). k ∷ hs) first.1
+          ∙ ap (λ (ks : List Header). i ∷ ks) rest.1,
+    )
 
 abbrev made : {S : Type 0} → S → List Header → List ℕ → Message S
 made s hs u = record { start = s; headers = hs; body = u }
@@ -44,13 +51,17 @@ module _ {S : Type 0} (IsFirstLine : List ℕ → S → Type 0) (may_have : ℕ 
     headers : hs ≡ is
     body : m ≡ n
 
-  head_same : (a b x y : List ℕ) (s t : S) (hs is : List Header) (m n : ℕ) (p : IsHead IsFirstLine may_have a s hs m) (q : IsHead IsFirstLine may_have b t is n) → a ++ x ≡ b ++ y → SameHead a b s t hs is m n
+  head_same : (a b x y : List ℕ) (s t : S) (hs is : List Header) (m n : ℕ) (p : IsHead IsFirstLine may_have a s hs m) (q : IsHead IsFirstLine may_have b t is n)
+      → a ++ x ≡ b ++ y → SameHead a b s t hs is m n
   head_same a b x y s t hs is m n p q e =
-      let pe : a ++ x ≡ p.first ++ (p.lines ++ (crlf ++ x)) = ap (λ (u : List ℕ). u ++ x) p.parts ∙ append_assoc (p.first ++ p.lines) crlf x ∙ append_assoc p.first p.lines (crlf ++ x) in
-      let qe : b ++ y ≡ q.first ++ (q.lines ++ (crlf ++ y)) = ap (λ (u : List ℕ). u ++ y) q.parts ∙ append_assoc (q.first ++ q.lines) crlf y ∙ append_assoc q.first q.lines (crlf ++ y) in
+      let pe : a ++ x ≡ p.first ++ (p.lines ++ (crlf ++ x)) = ap (λ (u : List ℕ). u ++ x) p.parts ∙ append_assoc (p.first ++ p.lines) crlf x
+      ∙ append_assoc p.first p.lines (crlf ++ x) in
+      let qe : b ++ y ≡ q.first ++ (q.lines ++ (crlf ++ y)) = ap (λ (u : List ℕ). u ++ y) q.parts ∙ append_assoc (q.first ++ q.lines) crlf y
+      ∙ append_assoc q.first q.lines (crlf ++ y) in
       let whole = sym pe ∙ e ∙ qe in
       let first = code p.first q.first (p.lines ++ (crlf ++ x)) (q.lines ++ (crlf ++ y)) s t p.first_line q.first_line whole in
-      let tail = append-cancel p.first (p.lines ++ (crlf ++ x)) (q.lines ++ (crlf ++ y)) (whole ∙ ap (λ (u : List ℕ). u ++ (q.lines ++ (crlf ++ y))) (sym first.0)) in
+      let tail = append-cancel p.first (p.lines ++ (crlf ++ x)) (q.lines ++ (crlf ++ y))
+      (whole ∙ ap (λ (u : List ℕ). u ++ (q.lines ++ (crlf ++ y))) (sym first.0)) in
       let lines = lines_same hs is p.lines q.lines x y p.header_lines q.header_lines tail in
       record {
         head = p.parts ∙ ap (λ (u : List ℕ). u ++ p.lines ++ crlf) first.0 ∙ ap (λ (u : List ℕ). q.first ++ u ++ crlf) lines.0 ∙ sym q.parts;
@@ -81,7 +92,8 @@ module _ {S : Type 0} (IsFirstLine : List ℕ → S → Type 0) (may_have : ℕ 
 
   -- a message in front is a head in front, within the limit
   whole_head : (bytes : List ℕ) (m : Message S) (used : ℕ) (w : IsWhole IsFirstLine may_have bytes m used) → bytes ≡ w.1.head ++ (m.body ++ drop used bytes)
-  whole_head bytes m used w = sym (take-append-drop used bytes) ∙ ap (λ (u : List ℕ). u ++ drop used bytes) w.1.parts ∙ append_assoc w.1.head m.body (drop used bytes)
+  whole_head bytes m used w = sym (take-append-drop used bytes) ∙ ap (λ (u : List ℕ). u ++ drop used bytes) w.1.parts
+      ∙ append_assoc w.1.head m.body (drop used bytes)
 
   whole_used : (bytes : List ℕ) (m : Message S) (used : ℕ) (w : IsWhole IsFirstLine may_have bytes m used) → used ≡ length w.1.head + length m.body
   whole_used bytes m used w = omega (arith, length-take-le used bytes w.0, ap length w.1.parts, length-append w.1.head m.body)
@@ -89,17 +101,27 @@ module _ {S : Type 0} (IsFirstLine : List ℕ → S → Type 0) (may_have : ℕ 
   has_head : (bytes : List ℕ) (m : Message S) (used : ℕ) → IsWhole IsFirstLine may_have bytes m used → HasHead IsFirstLine may_have bytes
   has_head bytes m used w = (w.1.head, m.body ++ drop used bytes, m.start, m.headers, length m.body, w.1.is_head, whole_head bytes m used w)
 
-  has_limited_head : (bytes : List ℕ) (m : Message S) (used : ℕ) → IsWhole IsFirstLine may_have bytes m used → HasHead IsFirstLine may_have (take head_limit bytes)
+  has_limited_head : (bytes : List ℕ) (m : Message S) (used : ℕ) → IsWhole IsFirstLine may_have bytes m used
+      → HasHead IsFirstLine may_have (take most_head bytes)
   has_limited_head bytes m used w =
       let e = whole_head bytes m used w in
       let k = length w.1.head in
       let long : k ≤ length bytes = omega (arith, ap length e, length-append w.1.head (m.body ++ drop used bytes)) in
-      let front : take k bytes ≡ w.1.head = ap (take k) e ∙ take_at w.1.head (m.body ++ drop used bytes) k refl in
-      (w.1.head, drop k (take head_limit bytes), m.start, m.headers, length m.body, w.1.is_head, front_of k head_limit bytes w.1.limit ∙ ap (λ (u : List ℕ). u ++ drop k (take head_limit bytes)) front)
+      let front : take k bytes ≡ w.1.head = ap (take k) e ∙ take_at w.1.head (m.body ++ drop used bytes) k refl in (
+        w.1.head,
+        drop k (take most_head bytes),
+        m.start,
+        m.headers,
+        length m.body,
+        w.1.is_head,
+        front_of k most_head bytes w.1.limit
+            ∙ ap (λ (u : List ℕ). u ++ drop k (take most_head bytes)) front,
+      )
 
   -- ---- one answer
 
-  whole_not_bad : (bytes : List ℕ) (m : Message S) (used place : ℕ) → IsWhole IsFirstLine may_have bytes m used → IsBadPlace IsFirstLine may_have bytes place → ⊥
+  whole_not_bad : (bytes : List ℕ) (m : Message S) (used place : ℕ) → IsWhole IsFirstLine may_have bytes m used → IsBadPlace IsFirstLine may_have bytes place
+      → ⊥
   whole_not_bad bytes m used place w (inl b) = b.never (head_front (suc place) bytes (has_head bytes m used w))
   whole_not_bad bytes m used place w (inr b) = b.1.endless (has_limited_head bytes m used w)
 
@@ -115,15 +137,18 @@ module _ {S : Type 0} (IsFirstLine : List ℕ → S → Type 0) (may_have : ℕ 
           | inr ge ↦ omega arith
         ]
       ]
-  bad_same bytes j k (inl p) (inr q) = absurd (wrong_first bytes j head_limit p q.1.before p.limit)
-  bad_same bytes j k (inr p) (inl q) = absurd (wrong_first bytes k head_limit q p.1.before q.limit)
+  bad_same bytes j k (inl p) (inr q) = absurd (wrong_first bytes j most_head p q.1.before p.limit)
+  bad_same bytes j k (inr p) (inl q) = absurd (wrong_first bytes k most_head q p.1.before q.limit)
   bad_same bytes j k (inr p) (inr q) = p.0 ∙ sym q.0
 
-  whole_same : (bytes : List ℕ) (m n : Message S) (j k : ℕ) → IsWhole IsFirstLine may_have bytes m j → IsWhole IsFirstLine may_have bytes n k → Whole m j ≡ Whole n k
+  whole_same : (bytes : List ℕ) (m n : Message S) (j k : ℕ) → IsWhole IsFirstLine may_have bytes m j → IsWhole IsFirstLine may_have bytes n k
+      → Whole m j ≡ Whole n k
   whole_same bytes m n j k p q =
-      let s = head_same p.1.head q.1.head (m.body ++ drop j bytes) (n.body ++ drop k bytes) m.start n.start m.headers n.headers (length m.body) (length n.body) p.1.is_head q.1.is_head (sym (whole_head bytes m j p) ∙ whole_head bytes n k q) in
+      let s = head_same p.1.head q.1.head (m.body ++ drop j bytes) (n.body ++ drop k bytes) m.start n.start m.headers n.headers (length m.body)
+      (length n.body) p.1.is_head q.1.is_head (sym (whole_head bytes m j p) ∙ whole_head bytes n k q) in
       let used : j ≡ k = omega (arith, whole_used bytes m j p, whole_used bytes n k q, ap length s.head, s.body) in
-      let texts : p.1.head ++ m.body ≡ p.1.head ++ n.body = sym p.1.parts ∙ ap (λ (i : ℕ). take i bytes) used ∙ q.1.parts ∙ ap (λ (u : List ℕ). u ++ n.body) (sym s.head) in
+      let texts : p.1.head ++ m.body ≡ p.1.head ++ n.body = sym p.1.parts ∙ ap (λ (i : ℕ). take i bytes) used ∙ q.1.parts
+      ∙ ap (λ (u : List ℕ). u ++ n.body) (sym s.head) in
       ap (λ (x : Message S). Whole x j) (message_same m n s.start s.headers (append-cancel p.1.head m.body n.body texts)) ∙ ap (Whole n) used
 
   pub one_answer : HasOneAnswer IsFirstLine may_have
@@ -140,7 +165,10 @@ module _ {S : Type 0} (IsFirstLine : List ℕ → S → Type 0) (may_have : ℕ 
   -- ---- the answer stays
 
   pub stays : Stays IsFirstLine may_have
-  stays bytes more (Whole m j) p final = (omega (arith, p.0, length-append bytes more), subst (λ (u : List ℕ). IsMessage IsFirstLine may_have u m) (sym (take-append-le j bytes more p.0)) p.1)
+  stays bytes more (Whole m j) p final = (
+    omega (arith, p.0, length-append bytes more),
+    subst (λ (u : List ℕ). IsMessage IsFirstLine may_have u m) (sym (take-append-le j bytes more p.0)) p.1,
+  )
   stays bytes more (BadText k) (inl p) final = inl (record {
     within = omega (arith, p.within, length-append bytes more);
     limit = p.limit;
@@ -151,8 +179,8 @@ module _ {S : Type 0} (IsFirstLine : List ℕ → S → Type 0) (may_have : ℕ 
     p.0,
     record {
       long = omega (arith, p.1.long, length-append bytes more);
-      before = subst (CanBegin IsFirstLine may_have) (sym (take-append-le head_limit bytes more p.1.long)) p.1.before;
-      endless = λ h. p.1.endless (subst (HasHead IsFirstLine may_have) (take-append-le head_limit bytes more p.1.long) h);
+      before = subst (CanBegin IsFirstLine may_have) (sym (take-append-le most_head bytes more p.1.long)) p.1.before;
+      endless = λ h. p.1.endless (subst (HasHead IsFirstLine may_have) (take-append-le most_head bytes more p.1.long) h);
     },
   )
   stays bytes more More p final = absurd (final refl)
@@ -162,31 +190,40 @@ module _ {S : Type 0} (IsFirstLine : List ℕ → S → Type 0) (may_have : ℕ 
 
   pub same_in_pieces : IsSameInPieces IsFirstLine may_have
   same_in_pieces pieces others k l a b e p f q g =
-      one_answer (concat pieces) a b (subst (λ (u : List ℕ). IsAnswer IsFirstLine may_have u a) (all_pieces pieces k) (stays (concat (take k pieces)) (concat (drop k pieces)) a p f)) (subst (λ (u : List ℕ). IsAnswer IsFirstLine may_have u b) (all_pieces others l ∙ sym e) (stays (concat (take l others)) (concat (drop l others)) b q g))
+      one_answer (concat pieces) a b (subst (λ (u : List ℕ). IsAnswer IsFirstLine may_have u a) (all_pieces pieces k)
+      (stays (concat (take k pieces)) (concat (drop k pieces)) a p f))
+      (subst (λ (u : List ℕ). IsAnswer IsFirstLine may_have u b) (all_pieces others l ∙ sym e)
+      (stays (concat (take l others)) (concat (drop l others)) b q g))
 
   -- ---- reading gives the answer
 
-  limit_parts : (bytes : List ℕ) → take head_limit bytes ++ drop head_limit bytes ≡ bytes
-  limit_parts bytes = take-append-drop head_limit bytes
+  limit_parts : (bytes : List ℕ) → take most_head bytes ++ drop most_head bytes ≡ bytes
+  limit_parts bytes = take-append-drop most_head bytes
 
-  limit_length : (bytes : List ℕ) → (length (take head_limit bytes) ≤ head_limit) × (length (take head_limit bytes) ≤ length bytes)
-  limit_length bytes = (omega (arith, length-take head_limit bytes), omega (arith, length-take head_limit bytes))
+  limit_length : (bytes : List ℕ) → (length (take most_head bytes) ≤ most_head) × (length (take most_head bytes) ≤ length bytes)
+  limit_length bytes = (omega (arith, length-take most_head bytes), omega (arith, length-take most_head bytes))
 
-  not_bad_with_head : (bytes : List ℕ) → HasHead IsFirstLine may_have bytes → HasHead IsFirstLine may_have (take head_limit bytes) → (place : ℕ) → IsBadPlace IsFirstLine may_have bytes place → ⊥
+  not_bad_with_head : (bytes : List ℕ) → HasHead IsFirstLine may_have bytes → HasHead IsFirstLine may_have (take most_head bytes) → (place : ℕ)
+      → IsBadPlace IsFirstLine may_have bytes place → ⊥
   not_bad_with_head bytes h limited place (inl b) = b.never (head_front (suc place) bytes h)
   not_bad_with_head bytes h limited place (inr b) = b.1.endless limited
 
   -- what was read of the front stands in front of all bytes
-  head_parts : (bytes : List ℕ) (x : S × (List Header × ℕ)) (rest : List ℕ) (h : HeadTaken IsFirstLine may_have code (take head_limit bytes) x rest) → bytes ≡ h.head ++ (rest ++ drop head_limit bytes)
-  head_parts bytes x rest h = sym (limit_parts bytes) ∙ ap (λ (u : List ℕ). u ++ drop head_limit bytes) h.parts ∙ append_assoc h.head rest (drop head_limit bytes)
+  head_parts : (bytes : List ℕ) (x : S × (List Header × ℕ)) (rest : List ℕ) (h : HeadTaken IsFirstLine may_have code (take most_head bytes) x rest)
+      → bytes ≡ h.head ++ (rest ++ drop most_head bytes)
+  head_parts bytes x rest h = sym (limit_parts bytes) ∙ ap (λ (u : List ℕ). u ++ drop most_head bytes) h.parts
+      ∙ append_assoc h.head rest (drop most_head bytes)
 
-  head_place : (bytes : List ℕ) (x : S × (List Header × ℕ)) (rest : List ℕ) (h : HeadTaken IsFirstLine may_have code (take head_limit bytes) x rest) → length (take head_limit bytes) - length rest ≡ length h.head
+  head_place : (bytes : List ℕ) (x : S × (List Header × ℕ)) (rest : List ℕ) (h : HeadTaken IsFirstLine may_have code (take most_head bytes) x rest)
+      → length (take most_head bytes) - length rest ≡ length h.head
   head_place bytes x rest h = omega (arith, ap length h.parts, length-append h.head rest)
 
-  message_right : (bytes : List ℕ) (x : S × (List Header × ℕ)) (rest : List ℕ) (h : HeadTaken IsFirstLine may_have code (take head_limit bytes) x rest) (place : ℕ) → place ≡ length h.head → place + x.1.1 ≤ length bytes → IsMessage IsFirstLine may_have (take (place + x.1.1) bytes) (made x.0 x.1.0 (take x.1.1 (drop place bytes)))
+  message_right : (bytes : List ℕ) (x : S × (List Header × ℕ)) (rest : List ℕ) (h : HeadTaken IsFirstLine may_have code (take most_head bytes) x rest)
+      (place : ℕ) → place ≡ length h.head → place + x.1.1 ≤ length bytes
+      → IsMessage IsFirstLine may_have (take (place + x.1.1) bytes) (made x.0 x.1.0 (take x.1.1 (drop place bytes)))
   message_right bytes x rest h place e le =
       let parts = head_parts bytes x rest h in
-      let front : take place bytes ≡ h.head = ap (take place) parts ∙ take_at h.head (rest ++ drop head_limit bytes) place (sym e) in
+      let front : take place bytes ≡ h.head = ap (take place) parts ∙ take_at h.head (rest ++ drop most_head bytes) place (sym e) in
       let size : length (take x.1.1 (drop place bytes)) ≡ x.1.1 = omega (arith, length-take x.1.1 (drop place bytes), length-drop place bytes) in
       record {
         head = h.head;
@@ -195,59 +232,72 @@ module _ {S : Type 0} (IsFirstLine : List ℕ → S → Type 0) (may_have : ℕ 
         parts = take-add place x.1.1 bytes ∙ ap (λ (u : List ℕ). u ++ take x.1.1 (drop place bytes)) front;
       }
 
-  head_right : (bytes : List ℕ) (x : S × (List Header × ℕ)) (rest : List ℕ) → HeadTaken IsFirstLine may_have code (take head_limit bytes) x rest → (t : Bool) → leb (length (take head_limit bytes) - length rest + x.1.1) (length bytes) ≡ t → IsAnswer IsFirstLine may_have bytes (cond t (Whole (made x.0 x.1.0 (take x.1.1 (drop (length (take head_limit bytes) - length rest) bytes))) (length (take head_limit bytes) - length rest + x.1.1)) More)
+  head_right : (bytes : List ℕ) (x : S × (List Header × ℕ)) (rest : List ℕ) → HeadTaken IsFirstLine may_have code (take most_head bytes) x rest → (t : Bool)
+      → leb (length (take most_head bytes) - length rest + x.1.1) (length bytes) ≡ t
+      → IsAnswer IsFirstLine may_have bytes (cond t (Whole (made x.0 x.1.0 (take x.1.1 (drop (length (take most_head bytes) - length rest) bytes)))
+      (length (take most_head bytes) - length rest + x.1.1)) More)
   head_right bytes x rest h true e =
-      let place = length (take head_limit bytes) - length rest in
+      let place = length (take most_head bytes) - length rest in
       let le : place + x.1.1 ≤ length bytes = grind (arith, nat_tests) in
       (le, message_right bytes x rest h place (head_place bytes x rest h) le)
   head_right bytes x rest h false e = record {
     not_whole = λ m used w. not_whole m used w;
-    not_bad = not_bad_with_head bytes (h.head, rest ++ drop head_limit bytes, x.0, x.1.0, x.1.1, h.is_head, head_parts bytes x rest h) (h.head, rest, x.0, x.1.0, x.1.1, h.is_head, h.parts);
+    not_bad = not_bad_with_head bytes (h.head, rest ++ drop most_head bytes, x.0, x.1.0, x.1.1, h.is_head, head_parts bytes x rest h)
+        (h.head, rest, x.0, x.1.0, x.1.1, h.is_head, h.parts);
   }
     where
       not_whole : (m : Message S) (used : ℕ) → IsWhole IsFirstLine may_have bytes m used → ⊥
       not_whole m used w =
-          let s = head_same h.head w.1.head (rest ++ drop head_limit bytes) (m.body ++ drop used bytes) x.0 m.start x.1.0 m.headers x.1.1 (length m.body) h.is_head w.1.is_head (sym (head_parts bytes x rest h) ∙ whole_head bytes m used w) in
+          let s = head_same h.head w.1.head (rest ++ drop most_head bytes) (m.body ++ drop used bytes) x.0 m.start x.1.0 m.headers x.1.1
+          (length m.body) h.is_head w.1.is_head (sym (head_parts bytes x rest h) ∙ whole_head bytes m used w) in
           let place = head_place bytes x rest h in
-          let beyond : length bytes < length (take head_limit bytes) - length rest + x.1.1 = grind (arith, nat_tests) in
+          let beyond : length bytes < length (take most_head bytes) - length rest + x.1.1 = grind (arith, nat_tests) in
           omega (arith, beyond, place, whole_used bytes m used w, w.0, ap length s.head, s.body)
 
-  bad_place : (bytes : List ℕ) (left : ℕ) (m : HeadStops IsFirstLine may_have code (take head_limit bytes) left) → length (take head_limit bytes) - left ≡ length m.front
+  bad_place : (bytes : List ℕ) (left : ℕ) (m : HeadStops IsFirstLine may_have code (take most_head bytes) left)
+      → length (take most_head bytes) - left ≡ length m.front
   bad_place bytes left m = omega (arith, ap length m.parts, length-append m.front (m.byte ∷ m.rest), m.left_is)
 
-  bad_right : (bytes : List ℕ) (left : ℕ) → HeadStops IsFirstLine may_have code (take head_limit bytes) left → IsBadPlace IsFirstLine may_have bytes (length (take head_limit bytes) - left)
+  bad_right : (bytes : List ℕ) (left : ℕ) → HeadStops IsFirstLine may_have code (take most_head bytes) left
+      → IsBadPlace IsFirstLine may_have bytes (length (take most_head bytes) - left)
   bad_right bytes left m =
-      let parts : bytes ≡ m.front ++ (m.byte ∷ (m.rest ++ drop head_limit bytes)) = sym (limit_parts bytes) ∙ ap (λ (u : List ℕ). u ++ drop head_limit bytes) m.parts ∙ append_assoc m.front (m.byte ∷ m.rest) (drop head_limit bytes) in
-      let more : bytes ≡ (m.front ++ m.byte ∷ []) ++ (m.rest ++ drop head_limit bytes) = parts ∙ sym (append_assoc m.front (m.byte ∷ []) (m.rest ++ drop head_limit bytes)) in
+      let parts : bytes ≡ m.front ++ (m.byte ∷ (m.rest ++ drop most_head bytes)) =
+      sym (limit_parts bytes) ∙ ap (λ (u : List ℕ). u ++ drop most_head bytes) m.parts ∙ append_assoc m.front (m.byte ∷ m.rest) (drop most_head bytes) in
+      let more : bytes ≡ (m.front ++ m.byte ∷ []) ++ (m.rest ++ drop most_head bytes) =
+      parts ∙ sym (append_assoc m.front (m.byte ∷ []) (m.rest ++ drop most_head bytes)) in
       let k = length m.front in
-      let before : take k bytes ≡ m.front = ap (take k) parts ∙ take_at m.front (m.byte ∷ (m.rest ++ drop head_limit bytes)) k refl in
-      let with_byte : take (suc k) bytes ≡ m.front ++ m.byte ∷ [] = ap (take (suc k)) more ∙ take_at (m.front ++ m.byte ∷ []) (m.rest ++ drop head_limit bytes) (suc k) (omega (arith, length-append m.front (m.byte ∷ []))) in
+      let before : take k bytes ≡ m.front = ap (take k) parts ∙ take_at m.front (m.byte ∷ (m.rest ++ drop most_head bytes)) k refl in
+      let with_byte : take (suc k) bytes ≡ m.front ++ m.byte ∷ [] =
+      ap (take (suc k)) more ∙ take_at (m.front ++ m.byte ∷ []) (m.rest ++ drop most_head bytes) (suc k)
+      (omega (arith, length-append m.front (m.byte ∷ []))) in
       let size = length-append m.front (m.byte ∷ m.rest) in
       let wrong : GoesWrongAt IsFirstLine may_have bytes k = record {
-        within = omega (arith, ap length parts, length-append m.front (m.byte ∷ (m.rest ++ drop head_limit bytes)));
+        within = omega (arith, ap length parts, length-append m.front (m.byte ∷ (m.rest ++ drop most_head bytes)));
         limit = omega (arith, ap length m.parts, size, (limit_length bytes).0);
         before = subst (CanBegin IsFirstLine may_have) (sym before) m.begins;
         never = λ b. m.never (subst (CanBegin IsFirstLine may_have) with_byte b);
       } in
       subst (IsBadPlace IsFirstLine may_have bytes) (sym (bad_place bytes left m)) (inl wrong)
 
-  open_right : (bytes : List ℕ) → HeadOpens IsFirstLine may_have code (take head_limit bytes) → (t : Bool) → leb head_limit (length bytes) ≡ t → IsAnswer IsFirstLine may_have bytes (place_answer (cond t (Some head_limit) None))
+  open_right : (bytes : List ℕ) → HeadOpens IsFirstLine may_have code (take most_head bytes) → (t : Bool) → leb most_head (length bytes) ≡ t
+      → IsAnswer IsFirstLine may_have bytes (place_answer (cond t (Some most_head) None))
   open_right bytes m true e = inr (refl, record { long = grind (arith, nat_tests); before = m.begins; endless = m.unended })
   open_right bytes m false e =
-      let short : length bytes < head_limit = grind (arith, nat_tests) in
-      let all : take head_limit bytes ≡ bytes = take_all head_limit bytes (omega arith) in
+      let short : length bytes < most_head = grind (arith, nat_tests) in
+      let all : take most_head bytes ≡ bytes = take_all most_head bytes (omega arith) in
       record {
         not_whole = λ n used w. m.unended (has_limited_head bytes n used w);
         not_bad = λ place b. not_bad place b;
       }
     where
       not_bad : (place : ℕ) → IsBadPlace IsFirstLine may_have bytes place → ⊥
-      not_bad place (inl b) = wrong_first bytes place head_limit b m.begins b.limit
-      not_bad place (inr b) = let short : length bytes < head_limit = grind (arith, nat_tests) in omega (arith, b.1.long)
+      not_bad place (inl b) = wrong_first bytes place most_head b m.begins b.limit
+      not_bad place (inr b) = let short : length bytes < most_head = grind (arith, nat_tests) in omega (arith, b.1.long)
 
-  pub answer_right : (bytes : List ℕ) (r : Result ((S × (List Header × ℕ)) × List ℕ) Stop) → MeetsHead IsFirstLine may_have code (take head_limit bytes) r → IsAnswer IsFirstLine may_have bytes (answer_by bytes r)
-  answer_right bytes (Ok x) m = head_right bytes x.0 x.1 m (leb (length (take head_limit bytes) - length x.1 + x.0.1.1) (length bytes)) refl
-  answer_right bytes (Err stop_more) m = open_right bytes m (leb head_limit (length bytes)) refl
+  pub answer_right : (bytes : List ℕ) (r : Result ((S × (List Header × ℕ)) × List ℕ) Stop) → MeetsHead IsFirstLine may_have code (take most_head bytes) r
+      → IsAnswer IsFirstLine may_have bytes (answer_by bytes r)
+  answer_right bytes (Ok x) m = head_right bytes x.0 x.1 m (leb (length (take most_head bytes) - length x.1 + x.0.1.1) (length bytes)) refl
+  answer_right bytes (Err stop_more) m = open_right bytes m (leb most_head (length bytes)) refl
   answer_right bytes (Err (Bad left)) m = bad_right bytes left m
 
   -- ---- places lie within what was read
@@ -259,11 +309,6 @@ module _ {S : Type 0} (IsFirstLine : List ℕ → S → Type 0) (may_have : ℕ 
   rest_within s x rest h = omega (arith, ap length h.parts, length-append h.head rest)
 
   module _ (first : List ℕ → Result (S × List ℕ) Stop) (meets : (s : List ℕ) → Meets IsFirstLine s (first s)) where
-    pub reading_right : (bytes : List ℕ) → IsAnswer IsFirstLine may_have bytes (answer_by bytes (head_by first may_have (take head_limit bytes)))
-    reading_right bytes = answer_right bytes (head_by first may_have (take head_limit bytes)) (head_meets IsFirstLine may_have code first meets (take head_limit bytes))
-
-    pub read_rest_within : (s : List ℕ) (x : (S × (List Header × ℕ)) × List ℕ) → head_by first may_have s ≡ Ok x → length x.1 ≤ length s
-    read_rest_within s x e = let P : Result ((S × (List Header × ℕ)) × List ℕ) Stop → Type 0 = MeetsHead IsFirstLine may_have code s in rest_within s x.0 x.1 (subst P e (head_meets IsFirstLine may_have code first meets s))
-
-    pub read_left_within : (s : List ℕ) (left : ℕ) → head_by first may_have s ≡ Err (Bad left) → left ≤ length s
-    read_left_within s left e = let P : Result ((S × (List Header × ℕ)) × List ℕ) Stop → Type 0 = MeetsHead IsFirstLine may_have code s in left_within s left (subst P e (head_meets IsFirstLine may_have code first meets s))
+    pub reading_right : (bytes : List ℕ) → IsAnswer IsFirstLine may_have bytes (answer_by bytes (head_by first may_have (take most_head bytes)))
+    reading_right bytes = answer_right bytes (head_by first may_have (take most_head bytes))
+        (head_meets IsFirstLine may_have code first meets (take most_head bytes))

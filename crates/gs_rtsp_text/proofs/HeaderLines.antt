@@ -36,7 +36,8 @@ all_spaces p h zero = refl
 all_spaces p h (suc k) = let t = all_spaces p h k in grind (arith, t, h)
 
 plain_code : IsCode Plain
-plain_code = then_code (Token is_value_byte 13 true) (λ raw. Exactly (10 ∷ []) (trimmed raw)) (token_code is_value_byte 13 true refl) (λ raw. exactly_code (10 ∷ []) (trimmed raw))
+plain_code = then_code (Token is_value_byte 13 true) (λ raw. Exactly (10 ∷ []) (trimmed raw)) (token_code is_value_byte 13 true refl)
+    (λ raw. exactly_code (10 ∷ []) (trimmed raw))
 
 plain_from_value : (name w v : List ℕ) → IsValue name w v → Plain w v
 plain_from_value name w v h = record {
@@ -44,7 +45,13 @@ plain_from_value name w v h = record {
   back = 10 ∷ [];
   value = spaces h.before ++ v ++ spaces h.after;
   parts = h.parts ∙ sym (append_assoc (spaces h.before ++ v ++ spaces h.after) (13 ∷ []) (10 ∷ []));
-  first = record { each = all-append is_value_byte (spaces h.before ++ v) (spaces h.after) (all-append is_value_byte (spaces h.before) v (all_spaces is_value_byte refl h.before) h.each) (all_spaces is_value_byte refl h.after); some = λ e g. false≢true (sym e); word = refl };
+  first = record {
+    each = all-append is_value_byte (spaces h.before ++ v) (spaces h.after)
+        (all-append is_value_byte (spaces h.before) v (all_spaces is_value_byte refl h.before) h.each) (all_spaces is_value_byte refl h.after);
+    some =
+        λ e g. false≢true (sym e);
+    word = refl;
+  };
   second = record { word = refl; value_is = sym (trimmed-spaces h.before h.after v h.outer) };
 }
 
@@ -60,7 +67,8 @@ value_from_plain name other w v h =
       sequence = λ e. absurd (false≢true (sym other ∙ e));
       before = t.before;
       after = t.after;
-      parts = h.parts ∙ ap (λ (u : List ℕ). u ++ h.back) h.first.word ∙ ap (λ (u : List ℕ). h.value ++ 13 ∷ [] ++ u) h.second.word ∙ append_assoc h.value (13 ∷ []) (10 ∷ []) ∙ ap (λ (u : List ℕ). u ++ crlf) raw;
+      parts = h.parts ∙ ap (λ (u : List ℕ). u ++ h.back) h.first.word ∙ ap (λ (u : List ℕ). h.value ++ 13 ∷ [] ++ u) h.second.word
+          ∙ append_assoc h.value (13 ∷ []) (10 ∷ []) ∙ ap (λ (u : List ℕ). u ++ crlf) raw;
     }
 
 sequence_digits : (ds : List ℕ) → is_sequence_number ds ≡ true → list_all is_digit ds ≡ true
@@ -79,14 +87,17 @@ value_from_spaced name w v h =
     let n = h.numbered in
     let t = n.trailing in
     let digits = sequence_digits v n.number in
-    let back-is : n.back ≡ spaces (length t.value) ++ crlf = t.parts ∙ ap (λ (u : List ℕ). u ++ t.back) (t.first.word ∙ ap (λ (u : List ℕ). u ++ 13 ∷ []) (spaces_is t.value t.first.each)) ∙ ap (λ (u : List ℕ). spaces (length t.value) ++ 13 ∷ [] ++ u) t.second.word ∙ append_assoc (spaces (length t.value)) (13 ∷ []) (10 ∷ []) in
+    let back-is : n.back ≡ spaces (length t.value) ++ crlf = t.parts
+    ∙ ap (λ (u : List ℕ). u ++ t.back) (t.first.word ∙ ap (λ (u : List ℕ). u ++ 13 ∷ []) (spaces_is t.value t.first.each))
+    ∙ ap (λ (u : List ℕ). spaces (length t.value) ++ 13 ∷ [] ++ u) t.second.word ∙ append_assoc (spaces (length t.value)) (13 ∷ []) (10 ∷ []) in
     record {
       each = digits_all is_value_byte (λ b d. grind (arith, nat_tests)) v digits;
       outer = digits_outer v digits;
       sequence = λ e. n.number;
       before = h.count;
       after = length t.value;
-      parts = h.parts ∙ ap (λ (u : List ℕ). spaces h.count ++ u) (n.parts ∙ ap (λ (u : List ℕ). v ++ u) back-is) ∙ sym (append_assoc (spaces h.count) v (spaces (length t.value) ++ crlf)) ∙ sym (append_assoc (spaces h.count ++ v) (spaces (length t.value)) crlf);
+      parts = h.parts ∙ ap (λ (u : List ℕ). spaces h.count ++ u) (n.parts ∙ ap (λ (u : List ℕ). v ++ u) back-is)
+          ∙ sym (append_assoc (spaces h.count) v (spaces (length t.value) ++ crlf)) ∙ sym (append_assoc (spaces h.count ++ v) (spaces (length t.value)) crlf);
     }
 
 spaced_from_value : (name : List ℕ) → is_cseq name ≡ true → (w v : List ℕ) → IsValue name w v → Spaced w v
@@ -97,7 +108,15 @@ spaced_from_value name same w v h = record {
     number = h.sequence same;
     back = spaces h.after ++ crlf;
     blank = spaces h.after;
-    trailing = record { front = spaces h.after ++ 13 ∷ []; back = 10 ∷ []; value = spaces h.after; parts = sym (append_assoc (spaces h.after) (13 ∷ []) (10 ∷ [])); first = record { each = all_spaces is_space refl h.after; some = λ e g. false≢true (sym e); word = refl }; second = record { word = refl; value_is = refl } };
+    trailing = record {
+      front = spaces h.after ++ 13 ∷ [];
+      back = 10 ∷ [];
+      value = spaces h.after;
+      parts = sym (append_assoc (spaces h.after) (13 ∷ []) (10 ∷ []));
+      first =
+          record { each = all_spaces is_space refl h.after; some = λ e g. false≢true (sym e); word = refl };
+      second = record { word = refl; value_is = refl };
+    };
     parts = refl;
   };
   parts = h.parts ∙ append_assoc (spaces h.before ++ v) (spaces h.after) crlf ∙ append_assoc (spaces h.before) v (spaces h.after ++ crlf);
@@ -117,14 +136,17 @@ with_name name r = r >>= λ v. Ok (record { name = name; value = v.0 }, v.1)
 
 plain_meets : (s : List ℕ) → Meets Plain s (value_at s)
 unfolding value_at
-plain_meets s = then_meets (Token is_value_byte 13 true) (λ raw. Exactly (10 ∷ []) (trimmed raw)) (token_code is_value_byte 13 true refl) (λ raw. exactly_some 10 [] (trimmed raw)) s (token_at is_value_byte 13 true s) (λ x. literal_as (10 ∷ []) (trimmed x.0) x.1) (token_meets is_value_byte 13 true 32 refl refl s) (λ x. literal_meets (10 ∷ []) (trimmed x.0) x.1)
+plain_meets s = then_meets (Token is_value_byte 13 true) (λ raw. Exactly (10 ∷ []) (trimmed raw)) (token_code is_value_byte 13 true refl)
+    (λ raw. exactly_some 10 [] (trimmed raw)) s (token_at is_value_byte 13 true s) (λ x. literal_as (10 ∷ []) (trimmed x.0) x.1)
+    (token_meets is_value_byte 13 true 32 refl refl s) (λ x. literal_meets (10 ∷ []) (trimmed x.0) x.1)
 
 value_meets : (name s : List ℕ) (t : Bool) → is_cseq name ≡ t → Meets (IsValue name) s (cond t (sequence_at s) (value_at s))
 value_meets name s true e = meets_same Spaced (IsValue name) (value_from_spaced name) (spaced_from_value name e) s (sequence_at s) (sequence_meets s)
 value_meets name s false e = meets_same Plain (IsValue name) (value_from_plain name e) (plain_from_value name) s (value_at s) (plain_meets s)
 
 behind_meets : (name s : List ℕ) → Meets (Behind name) s (with_name name (cond (is_cseq name) (sequence_at s) (value_at s)))
-behind_meets name s = meets_as (IsValue name) (Behind name) (λ v. record { name = name; value = v }) (λ w x h. (h, refl)) (λ w y h. (y.value, h.0)) s (cond (is_cseq name) (sequence_at s) (value_at s)) (value_meets name s (is_cseq name) refl)
+behind_meets name s = meets_as (IsValue name) (Behind name) (λ v. record { name = name; value = v }) (λ w x h. (h, refl)) (λ w y h. (y.value, h.0)) s
+    (cond (is_cseq name) (sequence_at s) (value_at s)) (value_meets name s (is_cseq name) refl)
 
 -- a value that fits any name
 behind_some : (name : List ℕ) → Opens (Behind name) []
@@ -140,7 +162,8 @@ Parts = Then (Token is_name_byte 58 false) Behind
 
 parts_meets : (s : List ℕ) → Meets Parts s (header_at s)
 unfolding header_at
-parts_meets s = then_meets (Token is_name_byte 58 false) Behind (token_code is_name_byte 58 false refl) behind_some s (token_at is_name_byte 58 false s) (λ x. with_name x.0 (cond (is_cseq x.0) (sequence_at x.1) (value_at x.1))) (token_meets is_name_byte 58 false 97 refl refl s) (λ x. behind_meets x.0 x.1)
+parts_meets s = then_meets (Token is_name_byte 58 false) Behind (token_code is_name_byte 58 false refl) behind_some s (token_at is_name_byte 58 false s)
+    (λ x. with_name x.0 (cond (is_cseq x.0) (sequence_at x.1) (value_at x.1))) (token_meets is_name_byte 58 false 97 refl refl s) (λ x. behind_meets x.0 x.1)
 
 line_from_parts : (w : List ℕ) (h : Header) → Parts w h → IsHeaderLine w h
 line_from_parts w h p =
@@ -154,7 +177,8 @@ line_from_parts w h p =
       },
       v.before,
       v.after,
-      p.parts ∙ ap (λ (u : List ℕ). u ++ p.back) p.first.word ∙ append_assoc p.value (58 ∷ []) p.back ∙ ap (λ (u : List ℕ). p.value ++ 58 ∷ u) v.parts ∙ ap (λ (u : List ℕ). u ++ 58 ∷ (spaces v.before ++ h.value ++ spaces v.after ++ crlf)) (sym name-is),
+      p.parts ∙ ap (λ (u : List ℕ). u ++ p.back) p.first.word ∙ append_assoc p.value (58 ∷ []) p.back ∙ ap (λ (u : List ℕ). p.value ++ 58 ∷ u) v.parts
+          ∙ ap (λ (u : List ℕ). u ++ 58 ∷ (spaces v.before ++ h.value ++ spaces v.after ++ crlf)) (sym name-is),
     )
 
 parts_from_line : (w : List ℕ) (h : Header) → IsHeaderLine w h → Parts w h
@@ -189,7 +213,14 @@ any_code name a b x y m n p q e =
 any_parts : (w : List ℕ) (h : Header) → IsHeaderLine w h → Then (Token is_name_byte 58 false) Any w h
 any_parts w h l =
     let p = parts_from_line w h l in
-    record { front = p.front; back = p.back; value = p.value; parts = p.parts; first = p.first; second = (plain_from_value p.value p.back h.value p.second.0, p.second.1) }
+    record {
+      front = p.front;
+      back = p.back;
+      value = p.value;
+      parts = p.parts;
+      first = p.first;
+      second = (plain_from_value p.value p.back h.value p.second.0, p.second.1);
+    }
 
 pub header_code : IsCode IsHeaderLine
 header_code a b x y m n p q e =

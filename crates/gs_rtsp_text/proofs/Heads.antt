@@ -42,7 +42,8 @@ module _ {S : Type 0} (IsFirstLine : List ℕ → S → Type 0) (may_have : ℕ 
   right_parts true o n e = (refl, e)
   right_parts false o n e = absurd cc
 
-  head_from_rest : (line : List ℕ) (start : S) → IsFirstLine line start → (w : List ℕ) (x : List Header × ℕ) → IsRest may_have [] w x → IsHead IsFirstLine may_have (line ++ w) start x.0 x.1
+  head_from_rest : (line : List ℕ) (start : S) → IsFirstLine line start → (w : List ℕ) (x : List Header × ℕ) → IsRest may_have [] w x
+      → IsHead IsFirstLine may_have (line ++ w) start x.0 x.1
   head_from_rest line start l w x r =
       let right = right_parts (may_have (cseq_count x.0)) (body_length x.0) x.1 r.right in
       record {
@@ -55,7 +56,8 @@ module _ {S : Type 0} (IsFirstLine : List ℕ → S → Type 0) (may_have : ℕ 
         body_is = right.1;
       }
 
-  rest_from_head : (head : List ℕ) (start : S) (hs : List Header) (n : ℕ) (h : IsHead IsFirstLine may_have head start hs n) → IsRest may_have [] (h.lines ++ crlf) (hs, n)
+  rest_from_head : (head : List ℕ) (start : S) (hs : List Header) (n : ℕ) (h : IsHead IsFirstLine may_have head start hs n)
+      → IsRest may_have [] (h.lines ++ crlf) (hs, n)
   rest_from_head head start hs n h = record {
     new = hs;
     lines = h.lines;
@@ -67,11 +69,22 @@ module _ {S : Type 0} (IsFirstLine : List ℕ → S → Type 0) (may_have : ℕ 
 
   goes_to_begins : (line : List ℕ) (start : S) → IsFirstLine line start → (s : List ℕ) → Goes may_have [] s → Begins (line ++ s)
   goes_to_begins line start l s (inl g) = inl (line, s, start, g.0, l, g.1, refl)
-  goes_to_begins line start l s (inr g) = inr (line ++ g.0, g.1, start, g.2.0, g.2.1, head_from_rest line start l g.0 g.2 g.3, ap (λ (u : List ℕ). line ++ u) g.4 ∙ sym (append_assoc line g.0 g.1))
+  goes_to_begins line start l s (inr g) = inr (
+    line ++ g.0,
+    g.1,
+    start,
+    g.2.0,
+    g.2.1,
+    head_from_rest line start l g.0 g.2 g.3,
+    ap (λ (u : List ℕ). line ++ u) g.4 ∙ sym (append_assoc line g.0 g.1),
+  )
 
-  head_parts : (line : List ℕ) (start : S) → IsFirstLine line start → (s rest head : List ℕ) (other : S) (hs : List Header) (n : ℕ) (h : IsHead IsFirstLine may_have head other hs n) → line ++ s ≡ head ++ rest → (line ≡ h.first) × (start ≡ other) × (s ≡ (h.lines ++ crlf) ++ rest)
+  head_parts : (line : List ℕ) (start : S) → IsFirstLine line start
+      → (s rest head : List ℕ) (other : S) (hs : List Header) (n : ℕ) (h : IsHead IsFirstLine may_have head other hs n) → line ++ s ≡ head ++ rest
+      → (line ≡ h.first) × (start ≡ other) × (s ≡ (h.lines ++ crlf) ++ rest)
   head_parts line start l s rest head other hs n h e =
-      let whole : line ++ s ≡ h.first ++ ((h.lines ++ crlf) ++ rest) = e ∙ ap (λ (u : List ℕ). u ++ rest) (h.parts ∙ append_assoc h.first h.lines crlf) ∙ append_assoc h.first (h.lines ++ crlf) rest in
+      let whole : line ++ s ≡ h.first ++ ((h.lines ++ crlf) ++ rest) = e ∙ ap (λ (u : List ℕ). u ++ rest) (h.parts ∙ append_assoc h.first h.lines crlf)
+      ∙ append_assoc h.first (h.lines ++ crlf) rest in
       let same = code line h.first s ((h.lines ++ crlf) ++ rest) start other l h.first_line whole in
       (same.0, same.1, append-cancel line s ((h.lines ++ crlf) ++ rest) (whole ∙ ap (λ (u : List ℕ). u ++ ((h.lines ++ crlf) ++ rest)) (sym same.0)))
 
@@ -84,14 +97,19 @@ module _ {S : Type 0} (IsFirstLine : List ℕ → S → Type 0) (may_have : ℕ 
       let p = head_parts line start l s g.1 g.0 g.2 g.3 g.4 g.5 g.6 in
       inr (g.5.lines ++ crlf, g.1, (g.3, g.4), rest_from_head g.0 g.2 g.3 g.4 g.5, p.2)
 
-  behind_first : (s : List ℕ) (start : S) (rest : List ℕ) → Takes IsFirstLine s start rest → (r : Result ((List Header × ℕ) × List ℕ) Stop) → MeetsRest may_have [] rest r → MeetsHead s (r >>= λ x. Ok ((start, x.0), x.1))
+  behind_first : (s : List ℕ) (start : S) (rest : List ℕ) → Takes IsFirstLine s start rest → (r : Result ((List Header × ℕ) × List ℕ) Stop)
+      → MeetsRest may_have [] rest r → MeetsHead s (r >>= λ x. Ok ((start, x.0), x.1))
   behind_first s start rest t (Ok x) m = record {
     head = t.taken ++ m.taken;
     is_head = head_from_rest t.taken start t.word m.taken x.0 m.word;
     parts = t.parts ∙ ap (λ (u : List ℕ). t.taken ++ u) m.parts ∙ sym (append_assoc t.taken m.taken x.1);
   }
   behind_first s start rest t (Err More) m = record {
-    begins = (m.more, subst Begins (sym (append_assoc t.taken rest m.more) ∙ ap (λ (u : List ℕ). u ++ m.more) (sym t.parts)) (goes_to_begins t.taken start t.word (rest ++ m.more) m.begins));
+    begins = (
+      m.more,
+      subst Begins (sym (append_assoc t.taken rest m.more) ∙ ap (λ (u : List ℕ). u ++ m.more) (sym t.parts))
+          (goes_to_begins t.taken start t.word (rest ++ m.more) m.begins),
+    );
     unended = λ g.
         let p = head_parts t.taken start t.word rest g.1 g.0 g.2 g.3 g.4 g.5 (sym t.parts ∙ g.6) in
         m.unended (g.5.lines ++ crlf) g.1 (g.3, g.4) (rest_from_head g.0 g.2 g.3 g.4 g.5) p.2;
@@ -103,7 +121,8 @@ module _ {S : Type 0} (IsFirstLine : List ℕ → S → Type 0) (may_have : ℕ 
     parts = t.parts ∙ ap (λ (u : List ℕ). t.taken ++ u) m.parts ∙ sym (append_assoc t.taken m.front (m.byte ∷ m.rest));
     left_is = m.left_is;
     begins = (m.more, subst Begins (sym (append_assoc t.taken m.front m.more)) (goes_to_begins t.taken start t.word (m.front ++ m.more) m.begins));
-    never = λ b. m.never b.0 (begins_to_goes t.taken start t.word (m.front ++ m.byte ∷ b.0) (subst Begins (append_assoc (t.taken ++ m.front) (m.byte ∷ []) b.0 ∙ append_assoc t.taken m.front (m.byte ∷ b.0)) b.1));
+    never = λ b. m.never b.0 (begins_to_goes t.taken start t.word (m.front ++ m.byte ∷ b.0)
+        (subst Begins (append_assoc (t.taken ++ m.front) (m.byte ∷ []) b.0 ∙ append_assoc t.taken m.front (m.byte ∷ b.0)) b.1));
   }
 
   -- ---- no whole first line
@@ -114,7 +133,8 @@ module _ {S : Type 0} (IsFirstLine : List ℕ → S → Type 0) (may_have : ℕ 
   open_first : (s : List ℕ) → Opens IsFirstLine s → HeadOpens s
   open_first s m = record {
     begins = first_open s m;
-    unended = λ g. inside IsFirstLine code s g.5.first ((g.5.lines ++ crlf) ++ g.1) g.2 m g.5.first_line (g.6 ∙ ap (λ (u : List ℕ). u ++ g.1) (g.5.parts ∙ append_assoc g.5.first g.5.lines crlf) ∙ append_assoc g.5.first (g.5.lines ++ crlf) g.1);
+    unended = λ g. inside IsFirstLine code s g.5.first ((g.5.lines ++ crlf) ++ g.1) g.2 m g.5.first_line
+        (g.6 ∙ ap (λ (u : List ℕ). u ++ g.1) (g.5.parts ∙ append_assoc g.5.first g.5.lines crlf) ∙ append_assoc g.5.first (g.5.lines ++ crlf) g.1);
   }
 
   bad_first : (s : List ℕ) (left : ℕ) → StopsAt IsFirstLine s left → HeadStops s left
@@ -130,13 +150,16 @@ module _ {S : Type 0} (IsFirstLine : List ℕ → S → Type 0) (may_have : ℕ 
     where
       never : (q : List ℕ) → Begins (m.front ++ m.byte ∷ q) → ⊥
       never q (inl g) = stopped IsFirstLine code s left m q g.0 g.1 g.2 g.4 g.6
-      never q (inr g) = stopped IsFirstLine code s left m q g.5.first ((g.5.lines ++ crlf) ++ g.1) g.2 g.5.first_line (g.6 ∙ ap (λ (u : List ℕ). u ++ g.1) (g.5.parts ∙ append_assoc g.5.first g.5.lines crlf) ∙ append_assoc g.5.first (g.5.lines ++ crlf) g.1)
+      never q (inr g) = stopped IsFirstLine code s left m q g.5.first ((g.5.lines ++ crlf) ++ g.1) g.2 g.5.first_line
+          (g.6 ∙ ap (λ (u : List ℕ). u ++ g.1) (g.5.parts ∙ append_assoc g.5.first g.5.lines crlf) ∙ append_assoc g.5.first (g.5.lines ++ crlf) g.1)
 
-  first_arm : (s : List ℕ) (r : Result (S × List ℕ) Stop) → Meets IsFirstLine s r → MeetsHead s (r >>= λ start. rest_of_head may_have [] start.1 >>= λ x. Ok ((start.0, x.0), x.1))
+  first_arm : (s : List ℕ) (r : Result (S × List ℕ) Stop) → Meets IsFirstLine s r
+      → MeetsHead s (r >>= λ start. rest_of_head may_have [] start.1 >>= λ x. Ok ((start.0, x.0), x.1))
   first_arm s (Ok x) m = behind_first s x.0 x.1 m (rest_of_head may_have [] x.1) (rest_meets may_have [] x.1)
   first_arm s (Err More) m = open_first s m
   first_arm s (Err (Bad left)) m = bad_first s left m
 
-  pub head_meets : (first : List ℕ → Result (S × List ℕ) Stop) → ((s : List ℕ) → Meets IsFirstLine s (first s)) → (s : List ℕ) → MeetsHead s (head_by first may_have s)
+  pub head_meets : (first : List ℕ → Result (S × List ℕ) Stop) → ((s : List ℕ) → Meets IsFirstLine s (first s)) → (s : List ℕ)
+      → MeetsHead s (head_by first may_have s)
   unfolding head_by
   head_meets first meets s = first_arm s (first s) (meets s)

@@ -4,8 +4,11 @@ pub mod Numbers
 pub mod HeaderLines
 pub mod FirstLines
 pub mod Rest
+mod Within
 pub mod Heads
+mod Counting
 pub mod Decided
 pub mod Scans
 pub mod Answered
+mod Started
 pub mod Written

@@ -40,7 +40,9 @@ IsCode {A} L = (a b x y : List ℕ) (m n : A) → L a m → L b n → a ++ x ≡
 
 -- ---- one byte more
 
-pub meets_more : {A B : Type 0} (L' : List ℕ → A → Type 0) (L : List ℕ → B → Type 0) (c : ℕ) (f : A → B) → ((w : List ℕ) (x : A) → L' w x → L (c ∷ w) (f x)) → ((w : List ℕ) (y : B) → L (c ∷ w) y → (x : A) × L' w x) → (s : List ℕ) (r : Result (A × List ℕ) Stop) → Meets L' s r → Meets L (c ∷ s) (r >>= λ x. Ok (f x.0, x.1))
+pub meets_more : {A B : Type 0} (L' : List ℕ → A → Type 0) (L : List ℕ → B → Type 0) (c : ℕ) (f : A → B) → ((w : List ℕ) (x : A) → L' w x → L (c ∷ w) (f x))
+    → ((w : List ℕ) (y : B) → L (c ∷ w) y → (x : A) × L' w x) → (s : List ℕ) (r : Result (A × List ℕ) Stop) → Meets L' s r
+    → Meets L (c ∷ s) (r >>= λ x. Ok (f x.0, x.1))
 meets_more L' L c f forth back s (Ok x) m = record { taken = c ∷ m.taken; word = forth m.taken x.0 m.word; parts = ap (λ (t : List ℕ). c ∷ t) m.parts }
 meets_more L' L c f forth back s (Err More) m = record { next = m.next; more = m.more; value = f m.value; word = forth _ _ m.word }
 meets_more L' L c f forth back s (Err (Bad left)) m = record {
@@ -54,12 +56,14 @@ meets_more L' L c f forth back s (Err (Bad left)) m = record {
 }
 
 -- the first byte is one with which no word begins
-pub meets_none : {A : Type 0} (L : List ℕ → A → Type 0) (b : ℕ) (s : List ℕ) → Opens L [] → ((q : List ℕ) (x : A) → L (b ∷ q) x → ⊥) → Meets L (b ∷ s) (Err (Bad (suc (length s))))
+pub meets_none : {A : Type 0} (L : List ℕ → A → Type 0) (b : ℕ) (s : List ℕ) → Opens L [] → ((q : List ℕ) (x : A) → L (b ∷ q) x → ⊥)
+    → Meets L (b ∷ s) (Err (Bad (suc (length s))))
 meets_none L b s some never = record { front = []; byte = b; rest = s; parts = refl; left_is = refl; begins = some; never = never }
 
 -- ---- the same words under other values
 
-pub meets_as : {A B : Type 0} (L' : List ℕ → A → Type 0) (L : List ℕ → B → Type 0) (f : A → B) → ((w : List ℕ) (x : A) → L' w x → L w (f x)) → ((w : List ℕ) (y : B) → L w y → (x : A) × L' w x) → (s : List ℕ) (r : Result (A × List ℕ) Stop) → Meets L' s r → Meets L s (r >>= λ x. Ok (f x.0, x.1))
+pub meets_as : {A B : Type 0} (L' : List ℕ → A → Type 0) (L : List ℕ → B → Type 0) (f : A → B) → ((w : List ℕ) (x : A) → L' w x → L w (f x))
+    → ((w : List ℕ) (y : B) → L w y → (x : A) × L' w x) → (s : List ℕ) (r : Result (A × List ℕ) Stop) → Meets L' s r → Meets L s (r >>= λ x. Ok (f x.0, x.1))
 meets_as L' L f forth back s (Ok x) m = record { taken = m.taken; word = forth m.taken x.0 m.word; parts = m.parts }
 meets_as L' L f forth back s (Err More) m = record { next = m.next; more = m.more; value = f m.value; word = forth _ _ m.word }
 meets_as L' L f forth back s (Err (Bad left)) m = record {
@@ -73,7 +77,8 @@ meets_as L' L f forth back s (Err (Bad left)) m = record {
 }
 
 -- languages with the same words
-pub meets_same : {A : Type 0} (L' L : List ℕ → A → Type 0) → ((w : List ℕ) (x : A) → L' w x → L w x) → ((w : List ℕ) (x : A) → L w x → L' w x) → (s : List ℕ) (r : Result (A × List ℕ) Stop) → Meets L' s r → Meets L s r
+pub meets_same : {A : Type 0} (L' L : List ℕ → A → Type 0) → ((w : List ℕ) (x : A) → L' w x → L w x) → ((w : List ℕ) (x : A) → L w x → L' w x)
+    → (s : List ℕ) (r : Result (A × List ℕ) Stop) → Meets L' s r → Meets L s r
 meets_same L' L forth back s (Ok x) m = record { taken = m.taken; word = forth m.taken x.0 m.word; parts = m.parts }
 meets_same L' L forth back s (Err More) m = record { next = m.next; more = m.more; value = m.value; word = forth _ _ m.word }
 meets_same L' L forth back s (Err (Bad left)) m = record {
@@ -87,7 +92,9 @@ meets_same L' L forth back s (Err (Bad left)) m = record {
 }
 
 -- languages with the same words of one first byte
-pub meets_at : {A B : Type 0} (L' : List ℕ → A → Type 0) (L : List ℕ → B → Type 0) (f : A → B) (b : ℕ) → ((w : List ℕ) (x : A) → L' w x → L w (f x)) → ((w : List ℕ) (y : B) → L (b ∷ w) y → (x : A) × L' (b ∷ w) x) → (s : List ℕ) (r : Result (A × List ℕ) Stop) → Meets L' (b ∷ s) r → Meets L (b ∷ s) (r >>= λ x. Ok (f x.0, x.1))
+pub meets_at : {A B : Type 0} (L' : List ℕ → A → Type 0) (L : List ℕ → B → Type 0) (f : A → B) (b : ℕ) → ((w : List ℕ) (x : A) → L' w x → L w (f x))
+    → ((w : List ℕ) (y : B) → L (b ∷ w) y → (x : A) × L' (b ∷ w) x) → (s : List ℕ) (r : Result (A × List ℕ) Stop) → Meets L' (b ∷ s) r
+    → Meets L (b ∷ s) (r >>= λ x. Ok (f x.0, x.1))
 meets_at L' L f b forth back s (Ok x) m = record { taken = m.taken; word = forth m.taken x.0 m.word; parts = m.parts }
 meets_at L' L f b forth back s (Err More) m = record { next = m.next; more = m.more; value = f m.value; word = forth _ _ m.word }
 meets_at {A} {B} L' L f b forth back s (Err (Bad left)) m = record {
@@ -100,7 +107,8 @@ meets_at {A} {B} L' L f b forth back s (Err (Bad left)) m = record {
   never = never m.front m.parts (λ q x. m.never q x);
 }
   where
-    never : (front : List ℕ) → b ∷ s ≡ front ++ m.byte ∷ m.rest → ((q : List ℕ) (x : A) → L' (front ++ m.byte ∷ q) x → ⊥) → (q : List ℕ) (y : B) → L (front ++ m.byte ∷ q) y → ⊥
+    never : (front : List ℕ) → b ∷ s ≡ front ++ m.byte ∷ m.rest → ((q : List ℕ) (x : A) → L' (front ++ m.byte ∷ q) x → ⊥) → (q : List ℕ) (y : B)
+        → L (front ++ m.byte ∷ q) y → ⊥
     never [] e none q y w =
         let head : m.byte ≡ b = cc in
         let k = back q y (subst (λ (c : ℕ). L (c ∷ q) y) head w) in
@@ -122,7 +130,8 @@ pub record Then {A B : Type 0} (L1 : List ℕ → A → Type 0) (L2 : A → List
   pub second : L2 value back y
 
 -- two fronts of one list: one of them begins the other
-pub split : (a b x y : List ℕ) → a ++ x ≡ b ++ y → ((v : List ℕ) × (b ≡ a ++ v) × (x ≡ v ++ y)) ⊎ ((c : ℕ) × (v : List ℕ) × (a ≡ b ++ c ∷ v) × (y ≡ c ∷ (v ++ x)))
+pub split : (a b x y : List ℕ) → a ++ x ≡ b ++ y → ((v : List ℕ) × (b ≡ a ++ v) × (x ≡ v ++ y))
+    ⊎ ((c : ℕ) × (v : List ℕ) × (a ≡ b ++ c ∷ v) × (y ≡ c ∷ (v ++ x)))
 split [] b x y e = inl (b, refl, e)
 split (c ∷ a) [] x y e = inr (c, a, refl, sym e)
 split (c ∷ a) (d ∷ b) x y e =
@@ -140,24 +149,28 @@ append-cancel (c ∷ a) x y e = append-cancel a x y cc
 -- a word of a code that begins a list which stops inside a word: that can't be
 pub inside : {A : Type 0} (L : List ℕ → A → Type 0) → IsCode L → (s w v : List ℕ) (x : A) → Opens L s → L w x → s ≡ w ++ v → ⊥
 inside L code s w v x o l e =
-    let same = code w (s ++ o.next ∷ o.more) (v ++ o.next ∷ o.more) [] x o.value l o.word (sym (append_assoc w v (o.next ∷ o.more)) ∙ ap (λ (t : List ℕ). t ++ o.next ∷ o.more) (sym e) ∙ sym (append-nil (s ++ o.next ∷ o.more))) in
+    let same = code w (s ++ o.next ∷ o.more) (v ++ o.next ∷ o.more) [] x o.value l o.word
+    (sym (append_assoc w v (o.next ∷ o.more)) ∙ ap (λ (t : List ℕ). t ++ o.next ∷ o.more) (sym e) ∙ sym (append-nil (s ++ o.next ∷ o.more))) in
     omega (arith, ap length same.0, ap length e, length-append s (o.next ∷ o.more), length-append w v)
 
 -- a list that goes on from where reading stopped begins with no word
-pub stopped : {A : Type 0} (L : List ℕ → A → Type 0) → IsCode L → (s : List ℕ) (left : ℕ) (m : StopsAt L s left) (q w v : List ℕ) (x : A) → L w x → m.front ++ m.byte ∷ q ≡ w ++ v → ⊥
+pub stopped : {A : Type 0} (L : List ℕ → A → Type 0) → IsCode L → (s : List ℕ) (left : ℕ) (m : StopsAt L s left) (q w v : List ℕ) (x : A) → L w x
+    → m.front ++ m.byte ∷ q ≡ w ++ v → ⊥
 stopped L code s left m q w v x l e =
     elim (split m.front w (m.byte ∷ q) v e) [
       | inl h ↦ first_cases L code s left m q w v x l h.0 h.1 h.2
       | inr h ↦ inside L code m.front w (h.0 ∷ h.1) x m.begins l h.2
     ]
   where
-    first_cases : {A : Type 0} (L : List ℕ → A → Type 0) → IsCode L → (s : List ℕ) (left : ℕ) (m : StopsAt L s left) (q w v : List ℕ) (x : A) → L w x → (u : List ℕ) → w ≡ m.front ++ u → m.byte ∷ q ≡ u ++ v → ⊥
+    first_cases : {A : Type 0} (L : List ℕ → A → Type 0) → IsCode L → (s : List ℕ) (left : ℕ) (m : StopsAt L s left) (q w v : List ℕ) (x : A) → L w x
+        → (u : List ℕ) → w ≡ m.front ++ u → m.byte ∷ q ≡ u ++ v → ⊥
     first_cases L code s left m q w v x l [] a b = inside L code m.front w [] x m.begins l (sym (append-nil m.front) ∙ sym a ∙ sym (append-nil w))
     first_cases L code s left m q w v x l (c ∷ u) a b =
         let c-is : c ≡ m.byte = cc in
         m.never u x (subst (λ (t : List ℕ). L t x) (a ∙ ap (λ (n : ℕ). m.front ++ n ∷ u) c-is) l)
 
-pub then_ok : {A B : Type 0} (L1 : List ℕ → A → Type 0) (L2 : A → List ℕ → B → Type 0) → IsCode L1 → (s : List ℕ) (x : A) (rest : List ℕ) → Takes L1 s x rest → (r : Result (B × List ℕ) Stop) → Meets (L2 x) rest r → Meets (Then L1 L2) s r
+pub then_ok : {A B : Type 0} (L1 : List ℕ → A → Type 0) (L2 : A → List ℕ → B → Type 0) → IsCode L1 → (s : List ℕ) (x : A) (rest : List ℕ) → Takes L1 s x rest
+    → (r : Result (B × List ℕ) Stop) → Meets (L2 x) rest r → Meets (Then L1 L2) s r
 then_ok L1 L2 code s x rest t (Ok y) m = record {
   taken = t.taken ++ m.taken;
   word = record { front = t.taken; back = m.taken; value = x; parts = refl; first = t.word; second = m.word };
@@ -167,7 +180,15 @@ then_ok L1 L2 code s x rest t (Err More) m = record {
   next = m.next;
   more = m.more;
   value = m.value;
-  word = record { front = t.taken; back = rest ++ m.next ∷ m.more; value = x; parts = ap (λ (u : List ℕ). u ++ m.next ∷ m.more) t.parts ∙ append_assoc t.taken rest (m.next ∷ m.more); first = t.word; second = m.word };
+  word = record {
+    front = t.taken;
+    back = rest ++ m.next ∷ m.more;
+    value = x;
+    parts = ap (λ (u : List ℕ). u ++ m.next ∷ m.more) t.parts
+        ∙ append_assoc t.taken rest (m.next ∷ m.more);
+    first = t.word;
+    second = m.word;
+  };
 }
 then_ok {A} L1 L2 code s x rest t (Err (Bad left)) m = record {
   front = t.taken ++ m.front;
@@ -179,15 +200,25 @@ then_ok {A} L1 L2 code s x rest t (Err (Bad left)) m = record {
     next = m.begins.next;
     more = m.begins.more;
     value = m.begins.value;
-    word = record { front = t.taken; back = m.front ++ m.begins.next ∷ m.begins.more; value = x; parts = append_assoc t.taken m.front (m.begins.next ∷ m.begins.more); first = t.word; second = m.begins.word };
+    word = record {
+      front = t.taken;
+      back = m.front ++ m.begins.next ∷ m.begins.more;
+      value = x;
+      parts = append_assoc t.taken m.front (m.begins.next ∷ m.begins.more);
+      first = t.word;
+      second = m.begins.word;
+    };
   };
   never = λ q y w.
       let same = code t.taken w.front (m.front ++ m.byte ∷ q) w.back x w.value t.word w.first (sym (append_assoc t.taken m.front (m.byte ∷ q)) ∙ w.parts) in
-      let back_is : w.back ≡ m.front ++ m.byte ∷ q = append-cancel t.taken w.back (m.front ++ m.byte ∷ q) (ap (λ (u : List ℕ). u ++ w.back) same.0 ∙ sym w.parts ∙ append_assoc t.taken m.front (m.byte ∷ q)) in
+      let back_is : w.back ≡ m.front ++ m.byte ∷ q = append-cancel t.taken w.back (m.front ++ m.byte ∷ q)
+      (ap (λ (u : List ℕ). u ++ w.back) same.0 ∙ sym w.parts ∙ append_assoc t.taken m.front (m.byte ∷ q)) in
       m.never q y (subst (λ (v : A). L2 v (m.front ++ m.byte ∷ q) y) (sym same.1) (subst (λ (u : List ℕ). L2 w.value u y) back_is w.second));
 }
 
-pub then_meets : {A B : Type 0} (L1 : List ℕ → A → Type 0) (L2 : A → List ℕ → B → Type 0) → IsCode L1 → ((x : A) → Opens (L2 x) []) → (s : List ℕ) (r : Result (A × List ℕ) Stop) (f : A × List ℕ → Result (B × List ℕ) Stop) → Meets L1 s r → ((x : A × List ℕ) → Meets (L2 x.0) x.1 (f x)) → Meets (Then L1 L2) s (r >>= f)
+pub then_meets : {A B : Type 0} (L1 : List ℕ → A → Type 0) (L2 : A → List ℕ → B → Type 0) → IsCode L1 → ((x : A) → Opens (L2 x) [])
+    → (s : List ℕ) (r : Result (A × List ℕ) Stop) (f : A × List ℕ → Result (B × List ℕ) Stop) → Meets L1 s r → ((x : A × List ℕ) → Meets (L2 x.0) x.1 (f x))
+    → Meets (Then L1 L2) s (r >>= f)
 then_meets L1 L2 code some s (Ok x) f m next = then_ok L1 L2 code s x.0 x.1 m (f x) (next x)
 then_meets L1 L2 code some s (Err More) f m next =
     let o = some m.value in
@@ -195,7 +226,14 @@ then_meets L1 L2 code some s (Err More) f m next =
       next = m.next;
       more = m.more ++ o.next ∷ o.more;
       value = o.value;
-      word = record { front = s ++ m.next ∷ m.more; back = o.next ∷ o.more; value = m.value; parts = sym (append_assoc s (m.next ∷ m.more) (o.next ∷ o.more)); first = m.word; second = o.word };
+      word = record {
+        front = s ++ m.next ∷ m.more;
+        back = o.next ∷ o.more;
+        value = m.value;
+        parts = sym (append_assoc s (m.next ∷ m.more) (o.next ∷ o.more));
+        first = m.word;
+        second = o.word;
+      };
     }
 then_meets L1 L2 code some s (Err (Bad left)) f m next =
     let b = m.begins in
@@ -210,22 +248,38 @@ then_meets L1 L2 code some s (Err (Bad left)) f m next =
         next = b.next;
         more = b.more ++ o.next ∷ o.more;
         value = o.value;
-        word = record { front = m.front ++ b.next ∷ b.more; back = o.next ∷ o.more; value = b.value; parts = sym (append_assoc m.front (b.next ∷ b.more) (o.next ∷ o.more)); first = b.word; second = o.word };
+        word = record {
+          front = m.front ++ b.next ∷ b.more;
+          back = o.next ∷ o.more;
+          value = b.value;
+          parts = sym (append_assoc m.front (b.next ∷ b.more) (o.next ∷ o.more));
+          first = b.word;
+          second = o.word;
+        };
       };
       never = λ q y w. stopped L1 code s left m q w.front w.back w.value w.first w.parts;
     }
 
 pub then_code : {A B : Type 0} (L1 : List ℕ → A → Type 0) (L2 : A → List ℕ → B → Type 0) → IsCode L1 → ((x : A) → IsCode (L2 x)) → IsCode (Then L1 L2)
 then_code {A} L1 L2 code1 code2 a b x y m n p q e =
-    let same = code1 p.front q.front (p.back ++ x) (q.back ++ y) p.value q.value p.first q.first (sym (append_assoc p.front p.back x) ∙ ap (λ (t : List ℕ). t ++ x) (sym p.parts) ∙ e ∙ ap (λ (t : List ℕ). t ++ y) q.parts ∙ append_assoc q.front q.back y) in
-    let tails = append-cancel p.front (p.back ++ x) (q.back ++ y) (sym (append_assoc p.front p.back x) ∙ ap (λ (t : List ℕ). t ++ x) (sym p.parts) ∙ e ∙ ap (λ (t : List ℕ). t ++ y) q.parts ∙ append_assoc q.front q.back y ∙ ap (λ (t : List ℕ). t ++ (q.back ++ y)) (sym same.0)) in
+    let same = code1 p.front q.front (p.back ++ x) (q.back ++ y) p.value q.value p.first q.first
+    (sym (append_assoc p.front p.back x) ∙ ap (λ (t : List ℕ). t ++ x) (sym p.parts) ∙ e ∙ ap (λ (t : List ℕ). t ++ y) q.parts
+    ∙ append_assoc q.front q.back y) in
+    let tails = append-cancel p.front (p.back ++ x) (q.back ++ y)
+    (sym (append_assoc p.front p.back x) ∙ ap (λ (t : List ℕ). t ++ x) (sym p.parts) ∙ e ∙ ap (λ (t : List ℕ). t ++ y) q.parts
+    ∙ append_assoc q.front q.back y ∙ ap (λ (t : List ℕ). t ++ (q.back ++ y)) (sym same.0)) in
     let backs = code2 p.value p.back q.back x y m n p.second (subst (λ (v : A). L2 v q.back n) (sym same.1) q.second) tails in
     (p.parts ∙ ap (λ (t : List ℕ). t ++ p.back) same.0 ∙ ap (λ (t : List ℕ). q.front ++ t) backs.0 ∙ sym q.parts, backs.1)
 
 pub then_some : {A B : Type 0} (L1 : List ℕ → A → Type 0) (L2 : A → List ℕ → B → Type 0) → Opens L1 [] → ((x : A) → Opens (L2 x) []) → Opens (Then L1 L2) []
 then_some L1 L2 first some =
     let o = some first.value in
-    record { next = first.next; more = first.more ++ o.next ∷ o.more; value = o.value; word = record { front = first.next ∷ first.more; back = o.next ∷ o.more; value = first.value; parts = refl; first = first.word; second = o.word } }
+    record {
+      next = first.next;
+      more = first.more ++ o.next ∷ o.more;
+      value = o.value;
+      word = record { front = first.next ∷ first.more; back = o.next ∷ o.more; value = first.value; parts = refl; first = first.word; second = o.word };
+    }
 
 -- a result taken apart and put together
 pub read_same : {A : Type 0} (r : Result (A × List ℕ) Stop) → r ≡ (r >>= λ x. Ok (x.0, x.1))

@@ -6,11 +6,9 @@ use Rattle.std.proofs.lemmas.Bool.Decides.{nat_tests}
 use Rattle.gs_rtsp_text.specs.declared.header.Header.{Header}
 use Rattle.gs_rtsp_text.specs.declared.stop.Stop.{Stop}
 use Rattle.gs_rtsp_text.specs.declared.stop.Stop.TheVariants.{More, Bad}
-use Rattle.gs_rtsp_text.specs.declared.stop.ReadError.{ReadError}
-use Rattle.gs_rtsp_text.specs.declared.stop.ReadError.TheVariants as errors
 use Rattle.gs_rtsp_text.specs.Bytes.{crlf, is_name_byte}
 use Rattle.gs_rtsp_text.specs.Lines.{IsHeaderLine, AreHeaderLines}
-use Rattle.gs_rtsp_text.specs.Reading.{◌>>=◌, Fails, header_at, length_if_right, empty_line_at, begins_with_cr, lines_at, rest_of_head}
+use Rattle.gs_rtsp_text.specs.Reading.{◌>>=◌, header_at, length_if_right, empty_line_at, begins_with_cr, lines_at, rest_of_head}
 use Rattle.gs_rtsp_text.proofs.Parts.{Opens, StopsAt, Takes, Meets, inside, stopped, append-cancel}
 use Rattle.gs_rtsp_text.proofs.Tokens.{Exactly, literal_meets, literal_as, exactly_code}
 use Rattle.gs_rtsp_text.proofs.HeaderLines.{header_meets, header_code, header_first, header_some}
@@ -65,9 +63,18 @@ module _ (may_have : ℕ → Bool) where
   abbrev EndsHere : List Header → List ℕ → Type 0
   EndsHere hs s = (v : List ℕ) × (s ≡ crlf ++ v) × (n : ℕ) × (length_if_right may_have hs ≡ Some n)
 
-  rest_with_cr : (hs : List Header) (q w rest : List ℕ) (x : List Header × ℕ) (new : List Header) (lines : List ℕ) → AreHeaderLines lines new → w ≡ lines ++ crlf → x.0 ≡ hs ++ new → length_if_right may_have x.0 ≡ Some x.1 → 13 ∷ q ≡ w ++ rest → EndsHere hs (13 ∷ q)
-  rest_with_cr hs q w rest x [] lines l p h r e = (rest, e ∙ ap (λ (u : List ℕ). u ++ rest) p ∙ ap (λ (u : List ℕ). u ++ crlf ++ rest) l, x.1, ap (length_if_right may_have) (sym (append-nil hs) ∙ sym h) ∙ r)
-  rest_with_cr hs q w rest x (i ∷ new) lines l p h r e = absurd (line_no_cr l.0 (l.1 ++ crlf ++ rest) q i l.2 (e ∙ ap (λ (u : List ℕ). u ++ rest) (p ∙ ap (λ (u : List ℕ). u ++ crlf) l.4) ∙ ap (λ (u : List ℕ). u ++ rest) (append_assoc l.0 l.1 crlf) ∙ append_assoc l.0 (l.1 ++ crlf) rest))
+  rest_with_cr : (hs : List Header) (q w rest : List ℕ) (x : List Header × ℕ) (new : List Header) (lines : List ℕ) → AreHeaderLines lines new
+      → w ≡ lines ++ crlf → x.0 ≡ hs ++ new → length_if_right may_have x.0 ≡ Some x.1 → 13 ∷ q ≡ w ++ rest → EndsHere hs (13 ∷ q)
+  rest_with_cr hs q w rest x [] lines l p h r e = (
+    rest,
+    e ∙ ap (λ (u : List ℕ). u ++ rest) p
+        ∙ ap (λ (u : List ℕ). u ++ crlf ++ rest) l,
+    x.1,
+    ap (length_if_right may_have) (sym (append-nil hs) ∙ sym h) ∙ r,
+  )
+  rest_with_cr hs q w rest x (i ∷ new) lines l p h r e = absurd (line_no_cr l.0 (l.1 ++ crlf ++ rest) q i l.2
+      (e ∙ ap (λ (u : List ℕ). u ++ rest) (p ∙ ap (λ (u : List ℕ). u ++ crlf) l.4) ∙ ap (λ (u : List ℕ). u ++ rest) (append_assoc l.0 l.1 crlf)
+      ∙ append_assoc l.0 (l.1 ++ crlf) rest))
 
   goes_with_cr : (hs : List Header) (q : List ℕ) → Goes hs (13 ∷ q) → EndsHere hs (13 ∷ q)
   goes_with_cr hs q (inl ([], l)) = absurd cc
@@ -102,12 +109,20 @@ module _ (may_have : ℕ → Bool) where
   front_cr q [] byte rest v e = (v, ap (λ (c : ℕ). c ∷ v) cc)
   front_cr q (c ∷ front) byte rest v e = (front ++ byte ∷ v, ap (λ (d : ℕ). d ∷ (front ++ byte ∷ v)) cc)
 
-  empty_meets : (hs : List Header) (n : ℕ) (q : List ℕ) → length_if_right may_have hs ≡ Some n → (r : Result ((List Header × ℕ) × List ℕ) Stop) → Meets (Exactly crlf (hs, n)) (13 ∷ q) r → MeetsRest hs (13 ∷ q) r
+  empty_meets : (hs : List Header) (n : ℕ) (q : List ℕ) → length_if_right may_have hs ≡ Some n → (r : Result ((List Header × ℕ) × List ℕ) Stop)
+      → Meets (Exactly crlf (hs, n)) (13 ∷ q) r → MeetsRest hs (13 ∷ q) r
   empty_meets hs n q right (Ok x) m = record { taken = m.taken; word = rw (m.word.word, m.word.value_is) (ends_now hs n right); parts = m.parts }
   empty_meets hs n q right (Err More) m = record {
     more = m.next ∷ m.more;
     begins = inr (crlf, [], (hs, n), ends_now hs n right, m.word.word);
-    unended = λ w v x r e. absurd (omega (arith, ap length e, ap length m.word.word, length-append (13 ∷ q) (m.next ∷ m.more), length-append w v, crlf_in w x hs r));
+    unended = λ w v x r e. absurd (omega (
+      arith,
+      ap length e,
+      ap length m.word.word,
+      length-append (13 ∷ q) (m.next ∷ m.more),
+      length-append w v,
+      crlf_in w x hs r,
+    ));
   }
   empty_meets hs n q right (Err (Bad left)) m = record {
     front = m.front;
@@ -129,7 +144,8 @@ module _ (may_have : ℕ → Bool) where
 
   -- ---- a header line, and the rest behind it
 
-  rest_more : (hs : List Header) (line : List ℕ) (h : Header) → IsHeaderLine line h → (w : List ℕ) (x : List Header × ℕ) → IsRest (hs ++ h ∷ []) w x → IsRest hs (line ++ w) x
+  rest_more : (hs : List Header) (line : List ℕ) (h : Header) → IsHeaderLine line h → (w : List ℕ) (x : List Header × ℕ) → IsRest (hs ++ h ∷ []) w x
+      → IsRest hs (line ++ w) x
   rest_more hs line h l w x r = record {
     new = h ∷ r.new;
     lines = line ++ r.lines;
@@ -141,7 +157,14 @@ module _ (may_have : ℕ → Bool) where
 
   goes_more : (hs : List Header) (line : List ℕ) (h : Header) → IsHeaderLine line h → (s : List ℕ) → Goes (hs ++ h ∷ []) s → Goes hs (line ++ s)
   goes_more hs line h l s (inl g) = inl (h ∷ g.0, (line, s, l, g.1, refl))
-  goes_more hs line h l s (inr g) = inr (line ++ g.0, g.1, g.2, rest_more hs line h l g.0 g.2 g.3, ap (λ (u : List ℕ). line ++ u) g.4 ∙ sym (append_assoc line g.0 g.1))
+  goes_more hs line h l s (inr g) = inr (
+    line ++ g.0,
+    g.1,
+    g.2,
+    rest_more hs line h l g.0 g.2 g.3,
+    ap (λ (u : List ℕ). line ++ u) g.4
+        ∙ sym (append_assoc line g.0 g.1),
+  )
 
   -- a list that begins with a header line isn't empty, and doesn't begin with CR LF
   line_some : (line s : List ℕ) (h : Header) → IsHeaderLine line h → line ++ s ≡ [] → ⊥
@@ -151,10 +174,14 @@ module _ (may_have : ℕ → Bool) where
   pub line_no_crlf : (line s v : List ℕ) (h : Header) → IsHeaderLine line h → line ++ s ≡ crlf ++ v → ⊥
   line_no_crlf line s v h l e = line_no_cr line s (10 ∷ v) h l (sym e)
 
-  rest_less : (hs : List Header) (line : List ℕ) (h : Header) → IsHeaderLine line h → (s w v : List ℕ) (x : List Header × ℕ) (new : List Header) (lines : List ℕ) → AreHeaderLines lines new → w ≡ lines ++ crlf → x.0 ≡ hs ++ new → length_if_right may_have x.0 ≡ Some x.1 → line ++ s ≡ w ++ v → (u : List ℕ) × IsRest (hs ++ h ∷ []) u x × (s ≡ u ++ v)
-  rest_less hs line h l s w v x [] lines ls p hd r e = absurd (line_no_crlf line s v h l (e ∙ ap (λ (u : List ℕ). u ++ v) (p ∙ ap (λ (u : List ℕ). u ++ crlf) ls)))
+  rest_less : (hs : List Header) (line : List ℕ) (h : Header) → IsHeaderLine line h
+      → (s w v : List ℕ) (x : List Header × ℕ) (new : List Header) (lines : List ℕ) → AreHeaderLines lines new → w ≡ lines ++ crlf → x.0 ≡ hs ++ new
+      → length_if_right may_have x.0 ≡ Some x.1 → line ++ s ≡ w ++ v → (u : List ℕ) × IsRest (hs ++ h ∷ []) u x × (s ≡ u ++ v)
+  rest_less hs line h l s w v x [] lines ls p hd r e = absurd (line_no_crlf line s v h l
+      (e ∙ ap (λ (u : List ℕ). u ++ v) (p ∙ ap (λ (u : List ℕ). u ++ crlf) ls)))
   rest_less hs line h l s w v x (i ∷ new) lines ls p hd r e =
-      let whole : line ++ s ≡ ls.0 ++ ((ls.1 ++ crlf) ++ v) = e ∙ ap (λ (u : List ℕ). u ++ v) (p ∙ ap (λ (u : List ℕ). u ++ crlf) ls.4 ∙ append_assoc ls.0 ls.1 crlf) ∙ append_assoc ls.0 (ls.1 ++ crlf) v in
+      let whole : line ++ s ≡ ls.0 ++ ((ls.1 ++ crlf) ++ v) = e ∙ ap (λ (u : List ℕ). u ++ v)
+      (p ∙ ap (λ (u : List ℕ). u ++ crlf) ls.4 ∙ append_assoc ls.0 ls.1 crlf) ∙ append_assoc ls.0 (ls.1 ++ crlf) v in
       let same = header_code line ls.0 s ((ls.1 ++ crlf) ++ v) h i l ls.2 whole in (
         ls.1 ++ crlf,
         record {
@@ -178,7 +205,8 @@ module _ (may_have : ℕ → Bool) where
       let k = rest_less hs line h l s g.0 g.1 g.2 r.new r.lines r.header_lines r.parts r.headers r.right g.4 in
       inr (k.0, g.1, g.2, k.1, k.2)
 
-  behind_line : (hs : List Header) (s : List ℕ) (h : Header) (rest : List ℕ) → Takes IsHeaderLine s h rest → (r : Result ((List Header × ℕ) × List ℕ) Stop) → MeetsRest (hs ++ h ∷ []) rest r → MeetsRest hs s r
+  behind_line : (hs : List Header) (s : List ℕ) (h : Header) (rest : List ℕ) → Takes IsHeaderLine s h rest → (r : Result ((List Header × ℕ) × List ℕ) Stop)
+      → MeetsRest (hs ++ h ∷ []) rest r → MeetsRest hs s r
   behind_line hs s h rest t (Ok x) m = record {
     taken = t.taken ++ m.taken;
     word = rest_more hs t.taken h t.word m.taken x.0 m.word;
@@ -186,7 +214,8 @@ module _ (may_have : ℕ → Bool) where
   }
   behind_line hs s h rest t (Err More) m = record {
     more = m.more;
-    begins = subst (Goes hs) (sym (append_assoc t.taken rest m.more) ∙ ap (λ (u : List ℕ). u ++ m.more) (sym t.parts)) (goes_more hs t.taken h t.word (rest ++ m.more) m.begins);
+    begins = subst (Goes hs) (sym (append_assoc t.taken rest m.more) ∙ ap (λ (u : List ℕ). u ++ m.more) (sym t.parts))
+        (goes_more hs t.taken h t.word (rest ++ m.more) m.begins);
     unended = λ w v x r e.
         let k = rest_less hs t.taken h t.word rest w v x r.new r.lines r.header_lines r.parts r.headers r.right (sym t.parts ∙ e) in
         m.unended k.0 v x k.1 k.2;
@@ -224,7 +253,8 @@ module _ (may_have : ℕ → Bool) where
     where
       unended : (w v : List ℕ) (x : List Header × ℕ) (new : List Header) (lines : List ℕ) → AreHeaderLines lines new → w ≡ lines ++ crlf → s ≡ w ++ v → ⊥
       unended w v x [] lines l p e = no_cr_crlf s v f (e ∙ ap (λ (u : List ℕ). u ++ v) (p ∙ ap (λ (u : List ℕ). u ++ crlf) l))
-      unended w v x (i ∷ new) lines l p e = inside IsHeaderLine header_code s l.0 ((l.1 ++ crlf) ++ v) i m l.2 (e ∙ ap (λ (u : List ℕ). u ++ v) (p ∙ ap (λ (u : List ℕ). u ++ crlf) l.4 ∙ append_assoc l.0 l.1 crlf) ∙ append_assoc l.0 (l.1 ++ crlf) v)
+      unended w v x (i ∷ new) lines l p e = inside IsHeaderLine header_code s l.0 ((l.1 ++ crlf) ++ v) i m l.2
+          (e ∙ ap (λ (u : List ℕ). u ++ v) (p ∙ ap (λ (u : List ℕ). u ++ crlf) l.4 ∙ append_assoc l.0 l.1 crlf) ∙ append_assoc l.0 (l.1 ++ crlf) v)
 
   bad_line : (hs : List Header) (s : List ℕ) (left : ℕ) → begins_with_cr s ≡ false → StopsAt IsHeaderLine s left → RestStops hs s left
   bad_line hs s left f m = record {
@@ -234,13 +264,24 @@ module _ (may_have : ℕ → Bool) where
     parts = m.parts;
     left_is = m.left_is;
     more = m.begins.next ∷ m.begins.more;
-    begins = inl (m.begins.value ∷ [], (m.front ++ m.begins.next ∷ m.begins.more, [], m.begins.word, refl, sym (append-nil (m.front ++ m.begins.next ∷ m.begins.more))));
+    begins = inl (
+      m.begins.value ∷ [],
+      (
+        m.front ++ m.begins.next ∷ m.begins.more,
+        [],
+        m.begins.word,
+        refl,
+        sym (append-nil (m.front ++ m.begins.next ∷ m.begins.more)),
+      ),
+    );
     never = λ q g. never q g;
   }
     where
       in_rest : (q w v : List ℕ) (new : List Header) (lines : List ℕ) → AreHeaderLines lines new → w ≡ lines ++ crlf → m.front ++ m.byte ∷ q ≡ w ++ v → ⊥
-      in_rest q w v [] lines l p e = no_cr_front m.front m.rest q v m.byte (ap begins_with_cr (sym m.parts) ∙ f) (e ∙ ap (λ (u : List ℕ). u ++ v) (p ∙ ap (λ (u : List ℕ). u ++ crlf) l))
-      in_rest q w v (i ∷ new) lines l p e = stopped IsHeaderLine header_code s left m q l.0 ((l.1 ++ crlf) ++ v) i l.2 (e ∙ ap (λ (u : List ℕ). u ++ v) (p ∙ ap (λ (u : List ℕ). u ++ crlf) l.4 ∙ append_assoc l.0 l.1 crlf) ∙ append_assoc l.0 (l.1 ++ crlf) v)
+      in_rest q w v [] lines l p e = no_cr_front m.front m.rest q v m.byte (ap begins_with_cr (sym m.parts) ∙ f)
+          (e ∙ ap (λ (u : List ℕ). u ++ v) (p ∙ ap (λ (u : List ℕ). u ++ crlf) l))
+      in_rest q w v (i ∷ new) lines l p e = stopped IsHeaderLine header_code s left m q l.0 ((l.1 ++ crlf) ++ v) i l.2
+          (e ∙ ap (λ (u : List ℕ). u ++ v) (p ∙ ap (λ (u : List ℕ). u ++ crlf) l.4 ∙ append_assoc l.0 l.1 crlf) ∙ append_assoc l.0 (l.1 ++ crlf) v)
 
       never : (q : List ℕ) → Goes hs (m.front ++ m.byte ∷ q) → ⊥
       never q (inl ([], g)) = some_not_empty m.front q m.byte g
@@ -259,8 +300,10 @@ module _ (may_have : ℕ → Bool) where
   abbrev Rests : ℕ → Type 0
   Rests n = (hs : List Header) (s : List ℕ) → length s < n → MeetsRest hs s (lines_at may_have n hs s)
 
-  header_arm : (n : ℕ) (hs : List Header) (s : List ℕ) → length s < suc n → Rests n → begins_with_cr s ≡ false → (r : Result (Header × List ℕ) Stop) → Meets IsHeaderLine s r → MeetsRest hs s (r >>= λ h. lines_at may_have n (hs ++ h.0 ∷ []) h.1)
-  header_arm n hs s lt rests f (Ok x) m = behind_line hs s x.0 x.1 m (lines_at may_have n (hs ++ x.0 ∷ []) x.1) (rests (hs ++ x.0 ∷ []) x.1 (omega (arith, taken_some s x.1 x.0 m)))
+  header_arm : (n : ℕ) (hs : List Header) (s : List ℕ) → length s < suc n → Rests n → begins_with_cr s ≡ false → (r : Result (Header × List ℕ) Stop)
+      → Meets IsHeaderLine s r → MeetsRest hs s (r >>= λ h. lines_at may_have n (hs ++ h.0 ∷ []) h.1)
+  header_arm n hs s lt rests f (Ok x) m = behind_line hs s x.0 x.1 m (lines_at may_have n (hs ++ x.0 ∷ []) x.1)
+      (rests (hs ++ x.0 ∷ []) x.1 (omega (arith, taken_some s x.1 x.0 m)))
   header_arm n hs s lt rests f (Err More) m = open_line hs s f m
   header_arm n hs s lt rests f (Err (Bad left)) m = bad_line hs s left f m
 
@@ -268,9 +311,11 @@ module _ (may_have : ℕ → Bool) where
   cr_arm hs [] e = absurd (false≢true e)
   cr_arm hs (b ∷ q) e =
       let byte : b ≡ 13 = grind (arith, nat_tests) in
-      subst (λ (c : ℕ). MeetsRest hs (c ∷ q) (empty_line_at hs (length_if_right may_have hs) (c ∷ q))) (sym byte) (right_meets hs q (length_if_right may_have hs) refl)
+      subst (λ (c : ℕ). MeetsRest hs (c ∷ q) (empty_line_at hs (length_if_right may_have hs) (c ∷ q))) (sym byte)
+      (right_meets hs q (length_if_right may_have hs) refl)
 
-  line_arm : (n : ℕ) (hs : List Header) (s : List ℕ) → length s < suc n → Rests n → (t : Bool) → begins_with_cr s ≡ t → MeetsRest hs s (cond t (empty_line_at hs (length_if_right may_have hs) s) (header_at s >>= λ h. lines_at may_have n (hs ++ h.0 ∷ []) h.1))
+  line_arm : (n : ℕ) (hs : List Header) (s : List ℕ) → length s < suc n → Rests n → (t : Bool) → begins_with_cr s ≡ t
+      → MeetsRest hs s (cond t (empty_line_at hs (length_if_right may_have hs) s) (header_at s >>= λ h. lines_at may_have n (hs ++ h.0 ∷ []) h.1))
   line_arm n hs s lt rests true e = cr_arm hs s e
   line_arm n hs s lt rests false e = header_arm n hs s lt rests e (header_at s) (header_meets s)
 
@@ -288,7 +333,8 @@ module _ (may_have : ℕ → Bool) where
   abbrev SameLines : ℕ → ℕ → Type 0
   SameLines n m = (hs : List Header) (s : List ℕ) → length s < n → length s < m → lines_at may_have n hs s ≡ lines_at may_have m hs s
 
-  same_header_arm : (n m : ℕ) (hs : List Header) (s : List ℕ) → length s < suc n → length s < suc m → SameLines n m → (r : Result (Header × List ℕ) Stop) → Meets IsHeaderLine s r → (r >>= λ h. lines_at may_have n (hs ++ h.0 ∷ []) h.1) ≡ (r >>= λ h. lines_at may_have m (hs ++ h.0 ∷ []) h.1)
+  same_header_arm : (n m : ℕ) (hs : List Header) (s : List ℕ) → length s < suc n → length s < suc m → SameLines n m → (r : Result (Header × List ℕ) Stop)
+      → Meets IsHeaderLine s r → (r >>= λ h. lines_at may_have n (hs ++ h.0 ∷ []) h.1) ≡ (r >>= λ h. lines_at may_have m (hs ++ h.0 ∷ []) h.1)
   same_header_arm n m hs s l k same (Ok x) t = let short = taken_some s x.1 x.0 t in same (hs ++ x.0 ∷ []) x.1 (omega arith) (omega arith)
   same_header_arm n m hs s l k same (Err e) t = refl
 
@@ -296,34 +342,33 @@ module _ (may_have : ℕ → Bool) where
   unfolding lines_at
   same_lines zero m hs s l k = absurd (omega arith)
   same_lines (suc n) zero hs s l k = absurd (omega arith)
-  same_lines (suc n) (suc m) hs s l k = ap (cond (begins_with_cr s) (empty_line_at hs (length_if_right may_have hs) s)) (same_header_arm n m hs s l k (same_lines n m) (header_at s) (header_meets s))
+  same_lines (suc n) (suc m) hs s l k = ap (cond (begins_with_cr s) (empty_line_at hs (length_if_right may_have hs) s))
+      (same_header_arm n m hs s l k (same_lines n m) (header_at s) (header_meets s))
 
-  pub rest_at_empty_line : (hs : List Header) (s : List ℕ) → begins_with_cr s ≡ true → rest_of_head may_have hs s ≡ empty_line_at hs (length_if_right may_have hs) s
+  pub rest_at_empty_line : (hs : List Header) (s : List ℕ) → begins_with_cr s ≡ true
+      → rest_of_head may_have hs s ≡ empty_line_at hs (length_if_right may_have hs) s
   unfolding rest_of_head lines_at
-  rest_at_empty_line hs s e = ap (λ (t : Bool). cond t (empty_line_at hs (length_if_right may_have hs) s) (header_at s >>= λ h. lines_at may_have (length s) (hs ++ h.0 ∷ []) h.1)) e
+  rest_at_empty_line hs s e = ap (λ (t : Bool). cond t (empty_line_at hs (length_if_right may_have hs) s)
+      (header_at s >>= λ h. lines_at may_have (length s) (hs ++ h.0 ∷ []) h.1)) e
 
   pub rest_at_stop : (hs : List Header) (s : List ℕ) (e : Stop) → begins_with_cr s ≡ false → header_at s ≡ Err e → rest_of_head may_have hs s ≡ Err e
   unfolding rest_of_head lines_at
-  rest_at_stop hs s e f h = ap (λ (t : Bool). cond t (empty_line_at hs (length_if_right may_have hs) s) (header_at s >>= λ h. lines_at may_have (length s) (hs ++ h.0 ∷ []) h.1)) f ∙ ap (λ (r : Result (Header × List ℕ) Stop). r >>= λ h. lines_at may_have (length s) (hs ++ h.0 ∷ []) h.1) h
+  rest_at_stop hs s e f h = ap (λ (t : Bool). cond t (empty_line_at hs (length_if_right may_have hs) s)
+      (header_at s >>= λ h. lines_at may_have (length s) (hs ++ h.0 ∷ []) h.1)) f
+      ∙ ap (λ (r : Result (Header × List ℕ) Stop). r >>= λ h. lines_at may_have (length s) (hs ++ h.0 ∷ []) h.1) h
 
   header_takes : (s : List ℕ) (x : Header × List ℕ) → (r : Result (Header × List ℕ) Stop) → Meets IsHeaderLine s r → r ≡ Ok x → Takes IsHeaderLine s x.0 x.1
   header_takes s x r m e = let P : Result (Header × List ℕ) Stop → Type 0 = Meets IsHeaderLine s in subst P e m
 
-  pub rest_at_header : (hs : List Header) (s : List ℕ) (h : Header) (rest : List ℕ) → begins_with_cr s ≡ false → header_at s ≡ Ok (h, rest) → rest_of_head may_have hs s ≡ rest_of_head may_have (hs ++ h ∷ []) rest
+  pub rest_at_header : (hs : List Header) (s : List ℕ) (h : Header) (rest : List ℕ) → begins_with_cr s ≡ false → header_at s ≡ Ok (h, rest)
+      → rest_of_head may_have hs s ≡ rest_of_head may_have (hs ++ h ∷ []) rest
   unfolding rest_of_head lines_at
   rest_at_header hs s h rest f e =
       let short = taken_some s rest h (header_takes s (h, rest) (header_at s) (header_meets s) e) in
-      ap (λ (t : Bool). cond t (empty_line_at hs (length_if_right may_have hs) s) (header_at s >>= λ h. lines_at may_have (length s) (hs ++ h.0 ∷ []) h.1)) f ∙ ap (λ (r : Result (Header × List ℕ) Stop). r >>= λ h. lines_at may_have (length s) (hs ++ h.0 ∷ []) h.1) e ∙ same_lines (length s) (suc (length rest)) (hs ++ h ∷ []) rest (omega arith) (omega arith)
+      ap (λ (t : Bool). cond t (empty_line_at hs (length_if_right may_have hs) s) (header_at s >>= λ h. lines_at may_have (length s) (hs ++ h.0 ∷ []) h.1)) f
+      ∙ ap (λ (r : Result (Header × List ℕ) Stop). r >>= λ h. lines_at may_have (length s) (hs ++ h.0 ∷ []) h.1) e
+      ∙ same_lines (length s) (suc (length rest)) (hs ++ h ∷ []) rest (omega arith) (omega arith)
 
 -- a header that is read takes a byte or more
 pub header_shorter : (s : List ℕ) (h : Header) (rest : List ℕ) → header_at s ≡ Ok (h, rest) → length rest < length s
 header_shorter s h rest e = taken_some (λ n. true) s rest h (header_takes (λ n. true) s (h, rest) (header_at s) (header_meets s) e)
-
--- ---- what the loop over the lines answers
-
-pub header_fails : (may_have : ℕ → Bool) (hs : List Header) (s : List ℕ) (total : Result ((List Header × ℕ) × List ℕ) Stop) (e : ReadError) → begins_with_cr s ≡ false → Fails e (header_at s) → rest_of_head may_have hs s ≡ total → Fails e total
-header_fails may_have hs s total errors.OutOfMemory f h so_far = tt
-header_fails may_have hs s total (errors.Stop stop) f h so_far = sym so_far ∙ rest_at_stop may_have hs s stop f h
-
-pub empty_line_is : (may_have : ℕ → Bool) (hs headers : List Header) (s : List ℕ) (o : Option ℕ) (total : Result ((List Header × ℕ) × List ℕ) Stop) → begins_with_cr s ≡ true → headers ≡ hs → o ≡ length_if_right may_have headers → rest_of_head may_have hs s ≡ total → total ≡ empty_line_at hs o s
-empty_line_is may_have hs headers s o total t same e so_far = sym so_far ∙ rest_at_empty_line may_have hs s t ∙ ap (λ (x : Option ℕ). empty_line_at hs x s) (sym (e ∙ ap (length_if_right may_have) same))

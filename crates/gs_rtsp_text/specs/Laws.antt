@@ -6,11 +6,13 @@ use Rattle.gs_rtsp_text.specs.Message.{Answer, More, IsAnswer}
 module _ {S : Type 0} (IsFirstLine : List ℕ → S → Type 0) (may_have : ℕ → Bool) where
   -- any bytes have one answer
   abbrev pub HasOneAnswer : Type 0
-  HasOneAnswer = (bytes : List ℕ) (a b : Answer S) → IsAnswer IsFirstLine may_have bytes a → IsAnswer IsFirstLine may_have bytes b → a ≡ b
+  HasOneAnswer = (bytes : List ℕ) (a b : Answer S) → IsAnswer IsFirstLine may_have bytes a
+      → IsAnswer IsFirstLine may_have bytes b → a ≡ b
 
   -- as soon as there is an answer it stays, whatever comes behind
   abbrev pub Stays : Type 0
-  Stays = (bytes more : List ℕ) (a : Answer S) → IsAnswer IsFirstLine may_have bytes a → (a ≡ More → ⊥) → IsAnswer IsFirstLine may_have (bytes ++ more) a
+  Stays = (bytes more : List ℕ) (a : Answer S) → IsAnswer IsFirstLine may_have bytes a → (a ≡ More → ⊥)
+      → IsAnswer IsFirstLine may_have (bytes ++ more) a
 
   -- a stream has one answer, whatever pieces it comes in and whenever there is one
   abbrev pub IsSameInPieces : Type 0

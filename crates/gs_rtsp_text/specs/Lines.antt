@@ -3,6 +3,7 @@ use Rattle.std.specs.Prelude.{◌≡◌, ℕ, ◌+◌, ◌/◌, ◌%◌, ◌<◌
 use Rattle.std.specs.List.{list_all}
 use Rattle.std.specs.Char.{to_ascii_lowercase}
 use Rattle.std.specs.Str.{bytes_eq}
+use Rattle.gs_rtsp_text.specs.declared.limits.TheConstants.{MOST_BODY}
 use Rattle.gs_rtsp_text.specs.declared.header.Header.{Header}
 use Rattle.gs_rtsp_text.specs.declared.message.Method.{Method}
 use Rattle.gs_rtsp_text.specs.declared.message.Method.TheVariants.{Options, Describe, Setup, Announce, Play}
@@ -37,7 +38,8 @@ IsHeaderLine line h = IsHeader h × (before after : ℕ)
 -- the lines of headers, one after the other
 abbrev pub AreHeaderLines : List ℕ → List Header → Type 0
 AreHeaderLines lines [] = lines ≡ []
-AreHeaderLines lines (h ∷ hs) = (line rest : List ℕ) × IsHeaderLine line h × AreHeaderLines rest hs × (lines ≡ line ++ rest)
+AreHeaderLines lines (h ∷ hs) = (line rest : List ℕ) × IsHeaderLine line h × AreHeaderLines rest hs
+    × (lines ≡ line ++ rest)
 
 -- ---- what the headers of a message say
 
@@ -54,11 +56,15 @@ cseq_count hs = count_by (λ h. is_cseq h.name) hs
 abbrev pub content_lengths : List Header → List Header
 content_lengths hs = filter (λ h. is_content_length h.name) hs
 
+-- the most bytes of a body
+abbrev pub most_body : ℕ
+most_body = MOST_BODY
+
 -- the length of the body by these headers: 0 where there is none, and nothing where there are two, or one
--- that is no number or exceeds 8,192
+-- that is no number or exceeds the limit
 abbrev pub length_by : List Header → Option ℕ
 length_by [] = Some 0
-length_by (h ∷ []) = decimal_up_to 8192 h.value
+length_by (h ∷ []) = decimal_up_to most_body h.value
 length_by (h ∷ i ∷ hs) = None
 
 abbrev pub body_length : List Header → Option ℕ

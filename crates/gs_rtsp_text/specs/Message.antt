@@ -1,5 +1,6 @@
 -- Requests and responses as bytes (RFC 2326), and what bytes that come one after the other hold.
 use Rattle.std.specs.Prelude.{◌≡◌, ℕ, suc, ◌<◌, ◌≤◌, Bool, ◌==◌, nat_le, IsTrue, ◌⊎◌, List, ◌++◌, length, take, Some, Result, Ok, Err, ⊤}
+use Rattle.gs_rtsp_text.specs.declared.limits.TheConstants.{MOST_HEAD}
 use Rattle.gs_rtsp_text.specs.declared.header.Header.{Header}
 use Rattle.gs_rtsp_text.specs.declared.message.Method.{Method}
 use Rattle.gs_rtsp_text.specs.declared.message.Request.{Request}
@@ -8,6 +9,7 @@ use Rattle.gs_rtsp_text.specs.declared.message.Read.{Read}
 use Rattle.gs_rtsp_text.specs.declared.message.Read.TheVariants as reads
 use Rattle.gs_rtsp_text.specs.declared.message.TextError.{TextError}
 use Rattle.gs_rtsp_text.specs.declared.message.TextError.TheVariants as errors
+use Rattle.gs_rtsp_text.specs.declared.read.Behind.{Behind}
 use Rattle.gs_rtsp_text.specs.declared.head.Kind.{Kind}
 use Rattle.gs_rtsp_text.specs.declared.head.Kind.TheVariants as kinds
 use Rattle.gs_rtsp_text.specs.Bytes.{crlf}
@@ -20,8 +22,8 @@ pub record Message (S : Type 0) : Type 0 where
   pub body : List ℕ
 
 -- the most bytes of a head
-abbrev pub head_limit : ℕ
-head_limit = 4096
+abbrev pub most_head : ℕ
+most_head = MOST_HEAD
 
 -- what bytes that have come so far hold: a whole message and the bytes that it takes, a byte that can't
 -- stand at its place, or neither yet
@@ -51,7 +53,7 @@ module _ {S : Type 0} (IsFirstLine : List ℕ → S → Type 0) (may_have : ℕ 
   pub record IsMessage (bytes : List ℕ) (m : Message S) : Type 0 where
     pub head : List ℕ
     pub is_head : IsHead head m.start m.headers (length m.body)
-    pub limit : length head ≤ head_limit
+    pub limit : length head ≤ most_head
     pub parts : bytes ≡ head ++ m.body
 
   -- the bytes begin with a whole head
@@ -67,18 +69,18 @@ module _ {S : Type 0} (IsFirstLine : List ℕ → S → Type 0) (may_have : ℕ 
   -- the byte at the place is the first with which no message can go on
   pub record GoesWrongAt (bytes : List ℕ) (place : ℕ) : Type 0 where
     pub within : place < length bytes
-    pub limit : place < head_limit
+    pub limit : place < most_head
     pub before : CanBegin (take place bytes)
     pub never : CanBegin (take (suc place) bytes) → ⊥
 
   -- no head ends within 4,096 bytes
   pub record IsTooLong (bytes : List ℕ) : Type 0 where
-    pub long : head_limit ≤ length bytes
-    pub before : CanBegin (take head_limit bytes)
-    pub endless : HasHead (take head_limit bytes) → ⊥
+    pub long : most_head ≤ length bytes
+    pub before : CanBegin (take most_head bytes)
+    pub endless : HasHead (take most_head bytes) → ⊥
 
   abbrev pub IsBadPlace : List ℕ → ℕ → Type 0
-  IsBadPlace bytes place = GoesWrongAt bytes place ⊎ ((place ≡ head_limit) × IsTooLong bytes)
+  IsBadPlace bytes place = GoesWrongAt bytes place ⊎ ((place ≡ most_head) × IsTooLong bytes)
 
   -- a front of the bytes is a message
   abbrev pub IsWhole : List ℕ → Message S → ℕ → Type 0
@@ -105,6 +107,10 @@ is_at_most_one n = nat_le n 1
 abbrev pub count_test : Kind → ℕ → Bool
 count_test kinds.Request = is_one
 count_test kinds.Response = is_at_most_one
+
+-- a message of which the first line isn't said
+abbrev pub behind_message : Behind → Message ⊤
+behind_message b = record { start = tt; headers = b.headers; body = b.body }
 
 abbrev pub request_message : Request → Message (Method × List ℕ)
 request_message r = record { start = (r.method, r.target); headers = r.headers; body = r.body }

@@ -6,15 +6,11 @@ use Rattle.gs_rtsp_text.specs.declared.message.Method.{Method}
 use Rattle.gs_rtsp_text.specs.declared.message.Method.TheVariants.{Options, Describe, Setup, Announce, Play}
 use Rattle.gs_rtsp_text.specs.declared.stop.Stop.{Stop}
 use Rattle.gs_rtsp_text.specs.declared.stop.Stop.TheVariants.{More, Bad}
-use Rattle.gs_rtsp_text.specs.declared.stop.ReadError.{ReadError}
-use Rattle.gs_rtsp_text.specs.declared.stop.ReadError.TheVariants as errors
-use Rattle.gs_rtsp_text.specs.declared.message.TextError.{TextError}
-use Rattle.gs_rtsp_text.specs.declared.message.TextError.TheVariants as text_errors
 use Rattle.gs_rtsp_text.specs.Bytes.{crlf, is_name_byte, is_value_byte, is_target_byte}
 use Rattle.gs_bytes.specs.Numbers.{is_digit}
 use Rattle.gs_bytes.specs.Words.{is_space, without_first_spaces, trimmed}
 use Rattle.gs_rtsp_text.specs.Lines.{method_name, is_cseq, cseq_count, body_length}
-use Rattle.gs_rtsp_text.specs.Message.{Answer, Whole, BadText, More as Unfinished, head_limit}
+use Rattle.gs_rtsp_text.specs.Message.{Answer, Whole, BadText, More as Unfinished, most_head}
 
 infixl 10 ◌>>=◌
 abbrev pub ◌>>=◌ : {A B : Type 0} → Result A Stop → (A → Result B Stop) → Result B Stop
@@ -25,15 +21,6 @@ abbrev pub ◌>>=◌ : {A B : Type 0} → Result A Stop → (A → Result B Stop
 abbrev pub Stops : {X Y : Type 0} → (X → Y) → Result X Stop → Result Y Stop → Type 0
 Stops view (Ok x) read = read ≡ Ok (view x)
 Stops view (Err e) read = read ≡ Err e
-
--- What a function returned, seen by view, is what reading gives, unless memory ran out.
-abbrev pub Fails : {Y : Type 0} → ReadError → Result Y Stop → Type 0
-Fails errors.OutOfMemory read = Unit {0}
-Fails (errors.Stop s) read = read ≡ Err s
-
-abbrev pub Gives : {X Y : Type 0} → (X → Y) → Result X ReadError → Result Y Stop → Type 0
-Gives view (Ok x) read = read ≡ Ok (view x)
-Gives view (Err e) read = Fails e read
 
 -- what a part gave, behind a byte that it begins with
 abbrev pub with_first : ℕ → Result (List ℕ × List ℕ) Stop → Result (List ℕ × List ℕ) Stop
@@ -49,13 +36,15 @@ literal_at (c ∷ cs) (b ∷ s) = if b == c then literal_at cs s else Err (Bad (
 abbrev pub token_at : (ℕ → Bool) → ℕ → Bool → List ℕ → Result (List ℕ × List ℕ) Stop
 token_at passes last may_end [] = Err More
 token_at passes last may_end (b ∷ s) =
-    if passes b then with_first b (token_at passes last true s) else (if may_end && b == last then Ok ([], s) else Err (Bad (length (b ∷ s))))
+    if passes b then with_first b (token_at passes last true s)
+    else (if may_end && b == last then Ok ([], s) else Err (Bad (length (b ∷ s))))
 
 -- further digits of a number below 2 ^ 31, behind those that stand for n
 abbrev pub digits_at : ℕ → List ℕ → Result (List ℕ × List ℕ) Stop
 digits_at n [] = Err More
 digits_at n (b ∷ s) =
-    if is_digit b then (if n == 0 || nat_le (2 ^ 31) (10 * n + (b - 48)) then Err (Bad (length (b ∷ s))) else with_first b (digits_at (10 * n + (b - 48)) s)) else Ok ([], b ∷ s)
+    if is_digit b then (if n == 0 || nat_le (2 ^ 31) (10 * n + (b - 48)) then Err
+    (Bad (length (b ∷ s))) else with_first b (digits_at (10 * n + (b - 48)) s)) else Ok ([], b ∷ s)
 
 abbrev pub number_at : List ℕ → Result (List ℕ × List ℕ) Stop
 number_at [] = Err More
@@ -101,11 +90,27 @@ begins_with_cr (b ∷ s) = b == 13
 unfoldable pub lines_at : (ℕ → Bool) → ℕ → List Header → List ℕ → Result ((List Header × ℕ) × List ℕ) Stop
 lines_at may_have zero hs s = Err More
 lines_at may_have (suc n) hs s =
-    if begins_with_cr s then empty_line_at hs (length_if_right may_have hs) s else (header_at s >>= λ h. lines_at may_have n (hs ++ h.0 ∷ []) h.1)
+    if begins_with_cr s then empty_line_at hs (length_if_right may_have hs) s
+    else (header_at s >>= λ h. lines_at may_have n (hs ++ h.0 ∷ []) h.1)
 
 -- Each line takes a byte or more, so this is enough.
 unfoldable pub rest_of_head : (ℕ → Bool) → List Header → List ℕ → Result ((List Header × ℕ) × List ℕ) Stop
 rest_of_head may_have hs s = lines_at may_have (suc (length s)) hs s
+
+-- the rest of a head gives the length of the body, and the bytes behind it are these
+abbrev pub GivesSize : {X : Type 0} → (X → ℕ × List ℕ) → Result X Stop
+    → Result ((List Header × ℕ) × List ℕ) Stop → Type 0
+GivesSize view (Ok x) read = (headers : List Header) × (read ≡ Ok ((headers, (view x).0), (view x).1))
+GivesSize view (Err e) read = read ≡ Err e
+
+-- the bytes begin with the whole rest of a head
+abbrev pub HasRest : List ℕ → Type 0
+HasRest bytes = (may_have : ℕ → Bool) × (x : (List Header × ℕ) × List ℕ) × (rest_of_head may_have [] bytes ≡ Ok x)
+
+-- these are the headers of that rest
+abbrev pub IsRestOf : List ℕ → List Header → Type 0
+IsRestOf bytes headers =
+    (may_have : ℕ → Bool) (x : (List Header × ℕ) × List ℕ) → rest_of_head may_have [] bytes ≡ Ok x → headers ≡ x.0.0
 
 -- ---- first lines
 
@@ -119,7 +124,11 @@ this_method m s = literal_at (word m) s >>= λ rest. Ok (m, rest)
 unfoldable pub method_at : List ℕ → Result (Method × List ℕ) Stop
 method_at [] = Err More
 method_at (b ∷ s) =
-    if b == 79 then this_method Options (b ∷ s) else (if b == 68 then this_method Describe (b ∷ s) else (if b == 83 then this_method Setup (b ∷ s) else (if b == 65 then this_method Announce (b ∷ s) else (if b == 80 then this_method Play (b ∷ s) else Err (Bad (length (b ∷ s)))))))
+    if b == 79 then this_method Options (b ∷ s) else
+    (if b == 68 then this_method Describe (b ∷ s)
+    else (if b == 83 then this_method Setup (b ∷ s)
+    else (if b == 65 then this_method Announce
+    (b ∷ s) else (if b == 80 then this_method Play (b ∷ s) else Err (Bad (length (b ∷ s)))))))
 
 unfoldable pub request_line_at : List ℕ → Result ((Method × List ℕ) × List ℕ) Stop
 request_line_at s = do
@@ -146,35 +155,32 @@ status_line_at s = do
 -- ---- heads and messages
 
 -- a head: what its first line says, its headers and the length of the body
-unfoldable pub head_by : {S : Type 0} → (List ℕ → Result (S × List ℕ) Stop) → (ℕ → Bool) → List ℕ → Result ((S × (List Header × ℕ)) × List ℕ) Stop
+unfoldable pub head_by : {S : Type 0} → (List ℕ → Result (S × List ℕ) Stop) → (ℕ → Bool) → List ℕ
+    → Result ((S × (List Header × ℕ)) × List ℕ) Stop
 head_by first may_have s = do
   start ← first s
   rest ← rest_of_head may_have [] start.1
   Ok ((start.0, rest.0), rest.1)
 
+-- the same, where it is known what the first line says
+abbrev pub head_behind : {S : Type 0} → S → (ℕ → Bool) → List ℕ → Result ((S × (List Header × ℕ)) × List ℕ) Stop
+head_behind start may_have s = rest_of_head may_have [] s >>= λ x. Ok ((start, x.0), x.1)
+
 -- behind a head that ends at the place lies a body of n bytes, or less so far
 abbrev pub body_answer : {S : Type 0} → List ℕ → ℕ → S → List Header → ℕ → Answer S
 body_answer bytes place start headers n =
-    if nat_le (place + n) (length bytes) then Whole (record { start = start; headers = headers; body = take n (drop place bytes) }) (place + n) else Unfinished
+    if nat_le (place + n) (length bytes) then Whole
+    (record { start = start; headers = headers; body = take n (drop place bytes) }) (place + n) else Unfinished
 
 -- the bytes that are left at a stop are some of these
 abbrev pub IsWithin : List ℕ → Stop → Type 0
 IsWithin bytes More = Unit {0}
 IsWithin bytes (Bad left) = left ≤ length bytes
 
-abbrev pub IsErrorWithin : List ℕ → ReadError → Type 0
-IsErrorWithin bytes errors.OutOfMemory = Unit {0}
-IsErrorWithin bytes (errors.Stop stop) = IsWithin bytes stop
-
--- what is left of the bytes is some of them
-abbrev pub ReadsWithin : {X : Type 0} → (X → List ℕ) → List ℕ → Result X ReadError → Type 0
-ReadsWithin rest bytes (Ok x) = length (rest x) ≤ length bytes
-ReadsWithin rest bytes (Err e) = IsErrorWithin bytes e
-
 -- the place of the first wrong byte, where there is one
 abbrev pub stop_place : List ℕ → Stop → Option ℕ
-stop_place bytes More = if nat_le head_limit (length bytes) then Some head_limit else None
-stop_place bytes (Bad left) = Some (length (take head_limit bytes) - left)
+stop_place bytes More = if nat_le most_head (length bytes) then Some most_head else None
+stop_place bytes (Bad left) = Some (length (take most_head bytes) - left)
 
 abbrev pub place_answer : {S : Type 0} → Option ℕ → Answer S
 place_answer None = Unfinished
@@ -182,10 +188,5 @@ place_answer (Some place) = BadText place
 
 -- the answer by what was read of the first 4,096 bytes
 abbrev pub answer_by : {S : Type 0} → List ℕ → Result ((S × (List Header × ℕ)) × List ℕ) Stop → Answer S
-answer_by bytes (Ok x) = body_answer bytes (length (take head_limit bytes) - length x.1) x.0.0 x.0.1.0 x.0.1.1
+answer_by bytes (Ok x) = body_answer bytes (length (take most_head bytes) - length x.1) x.0.0 x.0.1.0 x.0.1.1
 answer_by bytes (Err stop) = place_answer (stop_place bytes stop)
-
--- the place by an error, unless memory ran out
-abbrev pub GivesPlace : List ℕ → ReadError → Result (Option ℕ) TextError → Type 0
-GivesPlace bytes errors.OutOfMemory result = result ≡ Err text_errors.OutOfMemory
-GivesPlace bytes (errors.Stop stop) result = result ≡ Ok (stop_place bytes stop)

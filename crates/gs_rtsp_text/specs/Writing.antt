@@ -7,7 +7,7 @@ use Rattle.gs_rtsp_text.specs.declared.message.Request.{Request}
 use Rattle.gs_rtsp_text.specs.declared.message.Response.{Response}
 use Rattle.gs_rtsp_text.specs.Bytes.{crlf, is_target_byte, IsRun}
 use Rattle.gs_rtsp_text.specs.Lines.{IsHeader, cseq_count, body_length, method_name, three_digits}
-use Rattle.gs_rtsp_text.specs.Message.{Whole, head_limit, is_one, is_at_most_one, request_message, response_message, IsRequestAnswer, IsResponseAnswer}
+use Rattle.gs_rtsp_text.specs.Message.{Whole, most_head, is_one, is_at_most_one, request_message, response_message, IsRequestAnswer, IsResponseAnswer}
 
 abbrev pub header_text : Header → List ℕ
 header_text h = h.name ++ codes ": " ++ h.value ++ crlf
@@ -18,7 +18,9 @@ request_line_text method target = method_name method ++ codes " " ++ target ++ c
 -- the words behind a code
 abbrev pub reason_of : ℕ → List ℕ
 reason_of code =
-    if code == 200 then codes "OK" else (if code == 400 then codes "Bad Request" else (if code == 454 then codes "Session Not Found" else (if code == 455 then codes "Method Not Valid in This State" else [])))
+    if code == 200 then codes "OK" else (if code == 400 then codes "Bad Request"
+    else (if code == 454 then codes "Session Not Found"
+    else (if code == 455 then codes "Method Not Valid in This State" else [])))
 
 abbrev pub status_line_text : ℕ → List ℕ
 status_line_text code = codes "RTSP/1.0 " ++ three_digits code ++ codes " " ++ reason_of code ++ crlf
@@ -38,7 +40,7 @@ pub record AreRightHeaders (may_have : ℕ → Bool) (first : List ℕ) (hs : Li
   pub each : AllByRecursion IsHeader hs
   pub sequence : IsTrue (may_have (cseq_count hs))
   pub body_is : body_length hs ≡ Some (length body)
-  pub limit : length (head_text first hs) ≤ head_limit
+  pub limit : length (head_text first hs) ≤ most_head
 
 -- a request whose text is in the grammar
 pub record IsSendableRequest (r : Request) : Type 0 where

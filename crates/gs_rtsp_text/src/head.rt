@@ -1,20 +1,18 @@
-//! Heads: the lines of a message and the empty line.
+//! Heads: the header lines of a message and the empty line.
 
-ghost use Rattle.std.specs.Prelude.{◌≡◌, []};
-ghost use Rattle.gs_rtsp_text.specs.Lines.{body_length, cseq_count};
-ghost use Rattle.gs_rtsp_text.specs.Message.{count_test, is_one, is_at_most_one};
-ghost use Rattle.gs_rtsp_text.specs.Reading.{Stops, Gives, length_if_right, empty_line_at, begins_with_cr, rest_of_head, head_by, request_line_at, status_line_at};
+ghost use Rattle.std.specs.Prelude.{◌≡◌, ◌≤◌, ◌+◌, ◌||◌, [], IfOk, MatchResult, None, length, min, if◌then◌else◌};
+ghost use Rattle.gs_bytes.specs.Numbers.{decimal_up_to};
+ghost use Rattle.gs_rtsp_text.specs.Lines.{is_cseq, is_content_length, most_body};
+ghost use Rattle.gs_rtsp_text.specs.Message.{count_test};
+ghost use Rattle.gs_rtsp_text.specs.Reading.{GivesSize, HasRest, IsRestOf, IsWithin, begins_with_cr, rest_of_head};
 
 use crate::header::Header;
-use crate::lines::{header, names_content_length, names_cseq, request_line, status_line};
-use crate::message::Method;
+use crate::limits::MOST_BODY;
+use crate::lines::{header_parts, names_content_length, names_cseq};
 use crate::scan::literal;
-use crate::stop::{ReadError, Stop};
-use gs_bytes::parse_number;
+use crate::stop::Stop;
+use gs_bytes::{OutOfMemory, Text, parse_number};
 use std::alloc::Global;
-
-/// The most bytes of a body.
-const BODY_LIMIT: u32 = 8_192;
 
 /// The kinds of message.
 #[derive(Clone, Copy)]
@@ -25,79 +23,55 @@ pub(crate) enum Kind {
     Response,
 }
 
-/// The headers of a message, and the length of the body that they give.
-#[derive(Drop)]
-pub(crate) struct HeaderLines {
-    pub headers: Vec<Header>,
-    pub size: u32,
+/// What the header lines so far give.
+#[derive(Clone, Copy)]
+struct Counts {
+    /// How many are a CSeq, two for more.
+    sequences: u8,
+    /// Whether one gives the length of the body.
+    given: bool,
+    /// The length of the body, where no header line is wrong about it.
+    size: Option<u32>,
 }
 
-/// A head: what its first line says, and its header lines.
-#[derive(Drop)]
-pub(crate) struct Head<S> {
-    pub start: S,
-    pub lines: HeaderLines,
-}
-
-fn count_cseq(headers: &[Header]) -> usize
-    ensures { result ≡ cseq_count headers.now }
-{
-    headers
-        .iter()
-        .filter(|header| names_cseq(header.name.as_bytes()))
-        .count()
-}
-
-/// The length of the body, where the headers give one.
-fn length_of_body(headers: &[Header]) -> Option<u32>
-    ensures { result ≡ body_length headers.now }
-{
-    let mut length = Some(0);
-    let mut given = false;
-    for header in headers {
-        if names_content_length(header.name.as_bytes()) {
-            length = if given {
-                None
-            } else {
-                parse_number(header.value.as_bytes(), BODY_LIMIT)
-            };
-            given = true;
+impl Counts {
+    /// Counts a header line more.
+    fn count(self, name: &[u8], value: &[u8]) -> Counts
+        requires { self.sequences ≤ 2 }
+        ensures sequences { result.sequences ≡ (if is_cseq name.now then min (self.sequences + 1) 2 else self.sequences) }
+        ensures given { result.given ≡ (self.given || is_content_length name.now) }
+        ensures size { result.size ≡ (if is_content_length name.now
+            then (if self.given then None else decimal_up_to most_body value.now) else self.size) }
+    {
+        let sequences = if names_cseq(name) {
+            (self.sequences + 1).min(2)
+        } else {
+            self.sequences
+        };
+        let is_length = names_content_length(name);
+        let size = if !is_length {
+            self.size
+        } else if self.given {
+            None
+        } else {
+            parse_number(value, MOST_BODY)
+        };
+        Counts {
+            sequences,
+            given: self.given || is_length,
+            size,
         }
     }
-    length
-}
 
-/// The length of the body, where the headers are right.
-fn length_by_headers(kind: Kind, headers: &[Header]) -> Option<u32>
-    ensures { result ≡ length_if_right (count_test kind) headers.now }
-{
-    let count = count_cseq(headers);
-    let is_right = match kind {
-        Kind::Request => count == 1,
-        Kind::Response => count <= 1,
-    };
-    if is_right {
-        length_of_body(headers)
-    } else {
-        None
-    }
-}
-
-/// Reads the empty line behind headers that give a length, or none.
-fn empty_line(
-    headers: Vec<Header>,
-    length: Option<u32>,
-    bytes: &[u8],
-) -> Result<(HeaderLines, &[u8]), Stop>
-    ensures { Stops (λ x. ((x.0.headers.items, x.0.size), x.1.now)) result
-        (empty_line_at headers.items length bytes.now) }
-{
-    match length {
-        None => Err(Stop::Bad(bytes.len())),
-        Some(size) => {
-            let rest = literal(b"\r\n", bytes)?;
-            Ok((HeaderLines { headers, size }, rest))
-        }
+    /// The length of the body, where the header lines are right.
+    fn size_if_right(self, kind: Kind) -> Option<u32>
+        ensures { result ≡ (if count_test kind self.sequences then self.size else None) }
+    {
+        let is_right = match kind {
+            Kind::Request => self.sequences == 1,
+            Kind::Response => self.sequences <= 1,
+        };
+        if is_right { self.size } else { None }
     }
 }
 
@@ -110,43 +84,53 @@ fn is_at_empty_line(bytes: &[u8]) -> bool
     }
 }
 
-/// Reads the header lines and the empty line.
-fn header_lines(alloc: Global, kind: Kind, bytes: &[u8]) -> Result<(HeaderLines, &[u8]), ReadError>
-    ensures { Gives (λ x. ((x.0.headers.items, x.0.size), x.1.now)) result
-        (rest_of_head (count_test kind) [] bytes.now) }
+/// The length of the body by the header lines and the empty line, and the bytes behind them. It
+/// copies nothing.
+pub(crate) fn body_size(kind: Kind, bytes: &[u8]) -> Result<(u32, &[u8]), Stop>
+    ensures size { GivesSize (λ x. (x.0, x.1.now)) result (rest_of_head (count_test kind) [] bytes.now) }
+    ensures within { MatchResult result (λ x. length x.1.now ≤ length bytes.now) (λ stop. IsWithin bytes.now stop) }
+{
+    let mut counts = Counts {
+        sequences: 0,
+        given: false,
+        size: Some(0),
+    };
+    let mut rest = bytes;
+    'lines: while !is_at_empty_line(rest) {
+        let ((name, value), behind) = header_parts(rest)?;
+        counts = counts.count(name, value);
+        rest = behind;
+    }
+    let Some(size) = counts.size_if_right(kind) else {
+        return Err(Stop::Bad(rest.len()));
+    };
+    let rest = literal(b"\r\n", rest)?;
+    Ok((size, rest))
+}
+
+/// A copy of a header line.
+fn copy_of(alloc: Global, name: &[u8], value: &[u8]) -> Result<Header, OutOfMemory>
+    ensures { IfOk result (λ header. header ≡ record { name = name.now; value = value.now }) }
+{
+    let name = Text::copy_of(alloc, name)?;
+    let value = Text::copy_of(alloc, value)?;
+    Ok(Header { name, value })
+}
+
+/// The header lines in front of the empty line, where all of them have come.
+pub(crate) fn copy_headers(alloc: Global, bytes: &[u8]) -> Result<Vec<Header>, OutOfMemory>
+    requires { HasRest bytes.now }
+    ensures { IfOk result (λ copies. IsRestOf bytes.now copies.items) }
 {
     let mut headers = Vec::new(alloc);
     let mut rest = bytes;
     'lines: while !is_at_empty_line(rest) {
-        let (next, behind) = header(alloc, rest)?;
-        headers.push(next)?;
+        let ((name, value), behind) = match header_parts(rest) {
+            Ok(parts) => parts,
+            Err(_) => unreachable!(),
+        };
+        headers.push(copy_of(alloc, name, value)?)?;
         rest = behind;
     }
-    let length = length_by_headers(kind, headers.as_slice());
-    Ok(empty_line(headers, length, rest)?)
-}
-
-/// Reads the head of a request.
-#[tactic(auto, unfolding(crate::specs::Reading::head_by))]
-pub(crate) fn request_head(
-    alloc: Global,
-    bytes: &[u8],
-) -> Result<(Head<(Method, &[u8])>, &[u8]), ReadError>
-    ensures { Gives (λ x. (((x.0.start.0, x.0.start.1.now), (x.0.lines.headers.items, x.0.lines.size)), x.1.now)) result
-        (head_by request_line_at is_one bytes.now) }
-{
-    let (start, rest) = request_line(bytes)?;
-    let (lines, rest) = header_lines(alloc, Kind::Request, rest)?;
-    Ok((Head { start, lines }, rest))
-}
-
-/// Reads the head of a response.
-#[tactic(auto, unfolding(crate::specs::Reading::head_by))]
-pub(crate) fn response_head(alloc: Global, bytes: &[u8]) -> Result<(Head<u16>, &[u8]), ReadError>
-    ensures { Gives (λ x. ((x.0.start, (x.0.lines.headers.items, x.0.lines.size)), x.1.now)) result
-        (head_by status_line_at is_at_most_one bytes.now) }
-{
-    let (start, rest) = status_line(bytes)?;
-    let (lines, rest) = header_lines(alloc, Kind::Response, rest)?;
-    Ok((Head { start, lines }, rest))
+    Ok(headers)
 }

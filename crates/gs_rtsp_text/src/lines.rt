@@ -2,14 +2,12 @@
 
 ghost use Rattle.std.specs.Prelude.{◌≡◌, ◌<◌, IfOk};
 ghost use Rattle.gs_rtsp_text.specs.Lines.{is_same_name, is_cseq, is_content_length};
-ghost use Rattle.gs_rtsp_text.specs.Reading.{Stops, Gives, word, sequence_at, value_at, value_of_at, header_at, this_method, method_at, request_line_at, digit_at, status_line_at};
+ghost use Rattle.gs_rtsp_text.specs.Reading.{Stops, word, sequence_at, value_at, value_of_at, header_at, this_method, method_at, request_line_at, digit_at, status_line_at};
 
-use crate::header::Header;
 use crate::message::Method;
 use crate::scan::{ByteClass, literal, number, token};
-use crate::stop::{ReadError, Stop};
-use gs_bytes::{Text, trim, trim_start};
-use std::alloc::Global;
+use crate::stop::Stop;
+use gs_bytes::{trim, trim_start};
 
 /// Whether two names differ in the case of ASCII letters alone.
 pub(crate) fn are_same_name(a: &[u8], b: &[u8]) -> bool
@@ -63,16 +61,14 @@ fn value_of<'a>(name: &[u8], bytes: &'a [u8]) -> Result<(&'a [u8], &'a [u8]), St
     }
 }
 
-/// Reads a header line.
+/// Reads a header line: its name and its value, of which nothing is copied.
 #[tactic(auto, unfolding(crate::specs::Reading::header_at))]
-pub(crate) fn header(alloc: Global, bytes: &[u8]) -> Result<(Header, &[u8]), ReadError>
-    ensures { Gives (λ x. (x.0, x.1.now)) result (header_at bytes.now) }
+pub(crate) fn header_parts(bytes: &[u8]) -> Result<((&[u8], &[u8]), &[u8]), Stop>
+    ensures { Stops (λ x. (record { name = x.0.0.now; value = x.0.1.now }, x.1.now)) result (header_at bytes.now) }
 {
     let (name, rest) = token(ByteClass::Name, b':', false, bytes)?;
     let (value, rest) = value_of(name, rest)?;
-    let name = Text::copy_of(alloc, name)?;
-    let value = Text::copy_of(alloc, value)?;
-    Ok((Header { name, value }, rest))
+    Ok(((name, value), rest))
 }
 
 impl Method {

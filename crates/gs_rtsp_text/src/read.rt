@@ -3,43 +3,58 @@
 ghost use Rattle.std.specs.Prelude.{◌≡◌, ℕ, ◌+◌, ◌<◌, ◌≤◌, length, take, drop, MatchOption};
 ghost use Rattle.gs_rtsp_text.specs.declared.message.Read.TheVariants.{More as more_to_come};
 ghost use Rattle.gs_rtsp_text.specs.declared.message.TextError.TheVariants.{BadText};
-ghost use Rattle.gs_rtsp_text.specs.Message.{Answer, Answers, IfWhole, head_limit, request_message, response_message, is_one, is_at_most_one, IsRequest, IsBadRequestPlace, IsOpenRequest, IsRequestAnswer, IsResponse, IsBadResponsePlace, IsOpenResponse, IsResponseAnswer};
-ghost use Rattle.gs_rtsp_text.specs.Reading.{Gives, GivesPlace, IsErrorWithin, ReadsWithin, answer_by, body_answer, head_by, request_line_at, status_line_at};
+ghost use Rattle.gs_rtsp_text.specs.Message.{Answer, Answers, IfWhole, most_head, count_test, behind_message, request_message, response_message, is_one, is_at_most_one, IsRequest, IsBadRequestPlace, IsOpenRequest, IsRequestAnswer, IsResponse, IsBadResponsePlace, IsOpenResponse, IsResponseAnswer};
+ghost use Rattle.gs_rtsp_text.specs.Reading.{IsWithin, answer_by, head_behind, head_by, request_line_at, status_line_at, stop_place};
 
-use crate::head::{Head, HeaderLines, request_head, response_head};
+use crate::head::{Kind, body_size, copy_headers};
 use crate::header::Headers;
-use crate::message::{Method, Read, Request, Response, TextError};
-use crate::stop::{ReadError, Stop};
+use crate::limits::MOST_HEAD;
+use crate::lines::{request_line, status_line};
+use crate::message::{Read, Request, Response, TextError};
+use crate::stop::Stop;
 use gs_bytes::Text;
 use std::alloc::Global;
 
-/// The most bytes of a head.
-const HEAD_LIMIT: usize = 4_096;
+/// What stands behind the first line of a message.
+#[derive(Drop)]
+pub(crate) struct Behind {
+    pub headers: Headers,
+    pub body: Text,
+}
 
 /// The bytes that a head may take.
 fn head_part(bytes: &[u8]) -> &[u8]
-    ensures part { result.now ≡ take head_limit bytes.now }
+    ensures part { result.now ≡ take most_head bytes.now }
     ensures shorter { length result.now ≤ length bytes.now }
 {
-    &bytes[..HEAD_LIMIT.min(bytes.len())]
+    &bytes[..MOST_HEAD.min(bytes.len())]
 }
 
-/// The place of a wrong byte, where reading the front of the bytes stopped at one.
-fn wrong_place(bytes: &[u8], front: &[u8], error: ReadError) -> Result<Option<usize>, TextError>
-    requires front { front.now ≡ take head_limit bytes.now }
-    requires left { IsErrorWithin front.now error }
-    ensures { GivesPlace bytes.now error result }
+/// The place of the wrong byte, where reading the front of the bytes stopped at one.
+fn wrong_place(bytes: &[u8], front: &[u8], stop: Stop) -> Option<usize>
+    requires front { front.now ≡ take most_head bytes.now }
+    requires left { IsWithin front.now stop }
+    ensures { result ≡ stop_place bytes.now stop }
 {
-    match error {
-        ReadError::OutOfMemory => Err(TextError::OutOfMemory),
-        ReadError::Stop(Stop::Bad(left)) => Ok(Some(front.len() - left)),
-        ReadError::Stop(Stop::More) => {
-            if bytes.len() >= HEAD_LIMIT {
-                Ok(Some(HEAD_LIMIT))
+    match stop {
+        Stop::Bad(left) => Some(front.len() - left),
+        Stop::More => {
+            if bytes.len() >= MOST_HEAD {
+                Some(MOST_HEAD)
             } else {
-                Ok(None)
+                None
             }
         }
+    }
+}
+
+/// The answer by the place of a wrong byte, or by its absence.
+fn at_place<T>(place: Option<usize>) -> Result<Read<T>, TextError>
+    ensures { MatchOption place (result ≡ Ok more_to_come) (λ at. result ≡ Err (BadText at)) }
+{
+    match place {
+        None => Ok(Read::More),
+        Some(place) => Err(TextError::BadText(place)),
     }
 }
 
@@ -52,61 +67,57 @@ fn body_at(bytes: &[u8], place: usize, size: u32) -> Option<&[u8]>
     bytes[place..].get(..size as usize)
 }
 
-/// The head of a request, read of some bytes.
-fn request_head_of(alloc: Global, bytes: &[u8]) -> Result<(Head<(Method, &[u8])>, &[u8]), ReadError>
-    ensures head { Gives (λ x. (((x.0.start.0, x.0.start.1.now), (x.0.lines.headers.items, x.0.lines.size)), x.1.now)) result
-        (head_by request_line_at is_one bytes.now) }
-    ensures within { ReadsWithin (λ x. x.1.now) bytes.now result }
-{
-    request_head(alloc, bytes)
-}
-
-/// A head that ends at a place, with the body behind it.
-fn whole_request(
+/// Reads on behind the first line. `front` is what a head may take of the bytes, and `rest` what
+/// stands there behind that line. Nothing is copied before the message is whole.
+fn behind_first_line(
     alloc: Global,
+    kind: Kind,
     bytes: &[u8],
-    head: Head<(Method, &[u8])>,
-    place: usize,
-) -> Result<Read<Request>, TextError>
-    requires { place ≤ length bytes.now }
-    ensures { Answers request_message result
-        (body_answer bytes.now place (head.entry.start.0, head.entry.start.1.now) head.entry.lines.headers.items head.entry.lines.size) }
+    front: &[u8],
+    rest: &[u8],
+) -> Result<Read<Behind>, TextError>
+    requires front { front.now ≡ take most_head bytes.now }
+    requires shorter { length front.now ≤ length bytes.now }
+    requires rest { length rest.now ≤ length front.now }
+    ensures { Answers behind_message result (answer_by bytes.now (head_behind tt (count_test kind) rest.now)) }
 {
-    let Head { start, lines } = head;
-    let (method, target) = start;
-    let HeaderLines { headers, size } = lines;
+    let (size, left) = match body_size(kind, rest) {
+        Ok(found) => found,
+        Err(stop) => return at_place(wrong_place(bytes, front, stop)),
+    };
+    let place = front.len() - left.len();
     let Some(body) = body_at(bytes, place, size) else {
         return Ok(Read::More);
     };
-    let used = place + body.len();
-    let target = Text::copy_of(alloc, target)?;
-    let body = Text::copy_of(alloc, body)?;
+    let headers = copy_headers(alloc, rest)?;
     let headers = Headers::from_vec(headers);
-    let value = Request {
-        method,
-        target,
-        headers,
-        body,
-    };
+    let used = place + body.len();
+    let body = Text::copy_of(alloc, body)?;
+    let value = Behind { headers, body };
     Ok(Read::Whole { value, used })
 }
 
 fn request_answer(alloc: Global, bytes: &[u8]) -> Result<Read<Request>, TextError>
     ensures { Answers request_message result
-        (answer_by bytes.now (head_by request_line_at is_one (take head_limit bytes.now))) }
+        (answer_by bytes.now (head_by request_line_at is_one (take most_head bytes.now))) }
 {
     let front = head_part(bytes);
-    match request_head_of(alloc, front) {
-        Ok(read) => {
-            let (head, rest) = read;
-            whole_request(alloc, bytes, head, front.len() - rest.len())
-        }
-        Err(error) => {
-            let place = wrong_place(bytes, front, error)?;
-            match place {
-                None => Ok(Read::More),
-                Some(place) => Err(TextError::BadText(place)),
-            }
+    let ((method, target), rest) = match request_line(front) {
+        Ok(line) => line,
+        Err(stop) => return at_place(wrong_place(bytes, front, stop)),
+    };
+    match behind_first_line(alloc, Kind::Request, bytes, front, rest)? {
+        Read::More => Ok(Read::More),
+        Read::Whole { value, used } => {
+            let Behind { headers, body } = value;
+            let target = Text::copy_of(alloc, target)?;
+            let value = Request {
+                method,
+                target,
+                headers,
+                body,
+            };
+            Ok(Read::Whole { value, used })
         }
     }
 }
@@ -124,58 +135,25 @@ pub fn read_request(alloc: Global, bytes: &[u8]) -> Result<Read<Request>, TextEr
     request_answer(alloc, bytes)
 }
 
-/// The head of a response, read of some bytes.
-fn response_head_of(alloc: Global, bytes: &[u8]) -> Result<(Head<u16>, &[u8]), ReadError>
-    ensures head { Gives (λ x. ((x.0.start, (x.0.lines.headers.items, x.0.lines.size)), x.1.now)) result
-        (head_by status_line_at is_at_most_one bytes.now) }
-    ensures within { ReadsWithin (λ x. x.1.now) bytes.now result }
-{
-    response_head(alloc, bytes)
-}
-
-/// A head that ends at a place, with the body behind it.
-fn whole_response(
-    alloc: Global,
-    bytes: &[u8],
-    head: Head<u16>,
-    place: usize,
-) -> Result<Read<Response>, TextError>
-    requires { place ≤ length bytes.now }
-    ensures { Answers response_message result
-        (body_answer bytes.now place head.start head.lines.headers.items head.lines.size) }
-{
-    let Head { start: code, lines } = head;
-    let HeaderLines { headers, size } = lines;
-    let Some(body) = body_at(bytes, place, size) else {
-        return Ok(Read::More);
-    };
-    let used = place + body.len();
-    let body = Text::copy_of(alloc, body)?;
-    let headers = Headers::from_vec(headers);
-    let value = Response {
-        code,
-        headers,
-        body,
-    };
-    Ok(Read::Whole { value, used })
-}
-
 fn response_answer(alloc: Global, bytes: &[u8]) -> Result<Read<Response>, TextError>
     ensures { Answers response_message result
-        (answer_by bytes.now (head_by status_line_at is_at_most_one (take head_limit bytes.now))) }
+        (answer_by bytes.now (head_by status_line_at is_at_most_one (take most_head bytes.now))) }
 {
     let front = head_part(bytes);
-    match response_head_of(alloc, front) {
-        Ok(read) => {
-            let (head, rest) = read;
-            whole_response(alloc, bytes, head, front.len() - rest.len())
-        }
-        Err(error) => {
-            let place = wrong_place(bytes, front, error)?;
-            match place {
-                None => Ok(Read::More),
-                Some(place) => Err(TextError::BadText(place)),
-            }
+    let (code, rest) = match status_line(front) {
+        Ok(line) => line,
+        Err(stop) => return at_place(wrong_place(bytes, front, stop)),
+    };
+    match behind_first_line(alloc, Kind::Response, bytes, front, rest)? {
+        Read::More => Ok(Read::More),
+        Read::Whole { value, used } => {
+            let Behind { headers, body } = value;
+            let value = Response {
+                code,
+                headers,
+                body,
+            };
+            Ok(Read::Whole { value, used })
         }
     }
 }

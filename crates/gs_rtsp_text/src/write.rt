@@ -1,6 +1,6 @@
 //! Writing requests and responses.
 
-ghost use Rattle.std.specs.Prelude.{◌≡◌, ◌<◌, ◌++◌, codes, IfOk, OnOk};
+ghost use Rattle.std.specs.Prelude.{◌≡◌, ◌<◌, ◌++◌, codes, decimal, IfOk, OnOk};
 ghost use Rattle.std.specs.List.{flat_map};
 ghost use Rattle.gs_rtsp_text.specs.Lines.{three_digits};
 ghost use Rattle.gs_rtsp_text.specs.Writing.{header_text, request_line_text, status_line_text, reason_of, request_text, response_text, IsSendableRequest, IsSendableResponse};
@@ -8,6 +8,7 @@ ghost use Rattle.gs_rtsp_text.specs.Writing.{header_text, request_line_text, sta
 use crate::header::Header;
 use crate::message::{Method, Request, Response};
 use gs_bytes::{OutOfMemory, Text};
+use itoa::Buffer;
 use std::alloc::{AllocError, Global};
 
 fn push_header(out: &mut Vec<u8>, header: &Header) -> Result<(), AllocError>
@@ -49,15 +50,27 @@ fn reason(code: u16) -> &'static [u8]
     }
 }
 
-fn digits_of(code: u16) -> [u8; 3]
+/// The zeros before a code of one or two digits.
+fn zeros_before(code: u16) -> &'static [u8]
     requires { code < 1000 }
-    ensures { result ≡ three_digits code }
+    ensures { result.now ++ decimal code ≡ three_digits code }
 {
-    [
-        b'0' + (code / 100) as u8,
-        b'0' + (code / 10 % 10) as u8,
-        b'0' + (code % 10) as u8,
-    ]
+    match code {
+        0..=9 => b"00",
+        10..=99 => b"0",
+        _ => b"",
+    }
+}
+
+fn push_code(out: &mut Vec<u8>, code: u16) -> Result<(), AllocError>
+    requires { code < 1000 }
+    ensures { OnOk result (out.new.items ≡ out.old.items ++ three_digits code) }
+{
+    let mut buffer = Buffer::new();
+    let digits = buffer.format(code).as_bytes();
+    out.extend_from_slice(zeros_before(code))?;
+    out.extend_from_slice(digits)?;
+    Ok(())
 }
 
 fn push_status_line(out: &mut Vec<u8>, code: u16) -> Result<(), AllocError>
@@ -65,7 +78,7 @@ fn push_status_line(out: &mut Vec<u8>, code: u16) -> Result<(), AllocError>
     ensures { OnOk result (out.new.items ≡ out.old.items ++ status_line_text code) }
 {
     out.extend_from_slice(b"RTSP/1.0 ")?;
-    out.extend_from_slice(&digits_of(code))?;
+    push_code(out, code)?;
     out.extend_from_slice(b" ")?;
     out.extend_from_slice(reason(code))?;
     out.extend_from_slice(b"\r\n")

@@ -43,11 +43,15 @@ digits_no_feed : (value : List ℕ) → list_all is_digit value ≡ true → lis
 unfolding not_feed
 digits_no_feed value h = digits_all not_feed (λ b d. grind (arith, nat_tests)) value h
 
-line_of : (n : SettingName) (value rest : List ℕ) → list_all is_digit value ≡ true → lines_of (line_text (name_of n) value ++ rest) ≡ (front n value ++ 13 ∷ []) ∷ lines_of rest
+line_of : (n : SettingName) (value rest : List ℕ) → list_all is_digit value ≡ true
+    → lines_of (line_text (name_of n) value ++ rest) ≡ (front n value ++ 13 ∷ []) ∷ lines_of rest
 unfolding front not_feed
 line_of n value rest h =
-    let whole : line_text (name_of n) value ++ rest ≡ (codes "a=" ++ name_of n ++ codes ":" ++ value ++ 13 ∷ []) ++ 10 ∷ rest = append_assoc (codes "a=" ++ name_of n ++ codes ":" ++ value) (13 ∷ 10 ∷ []) rest ∙ sym (append_assoc (codes "a=" ++ name_of n ++ codes ":" ++ value) (13 ∷ []) (10 ∷ rest)) in
-    let text = all-append not_feed (codes "a=" ++ name_of n ++ codes ":" ++ value) (13 ∷ []) (all-append not_feed (codes "a=" ++ name_of n ++ codes ":") value (name_bytes n) (digits_no_feed value h)) refl in
+    let whole : line_text (name_of n) value ++ rest ≡ (codes "a=" ++ name_of n ++ codes ":" ++ value ++ 13 ∷ []) ++ 10 ∷ rest =
+    append_assoc (codes "a=" ++ name_of n ++ codes ":" ++ value) (13 ∷ 10 ∷ []) rest
+    ∙ sym (append_assoc (codes "a=" ++ name_of n ++ codes ":" ++ value) (13 ∷ []) (10 ∷ rest)) in
+    let text = all-append not_feed (codes "a=" ++ name_of n ++ codes ":" ++ value) (13 ∷ [])
+    (all-append not_feed (codes "a=" ++ name_of n ++ codes ":") value (name_bytes n) (digits_no_feed value h)) refl in
     ap lines_of whole ∙ line_is (codes "a=" ++ name_of n ++ codes ":" ++ value ++ 13 ∷ []) rest text
 
 without_cr-at : (text : List ℕ) → without_cr (text ++ 13 ∷ []) ≡ text
@@ -70,7 +74,9 @@ abbrev value_of : List ℕ → List ℕ → Option (List ℕ)
 value_of name text = option_and_then (λ bs. Some (without_last_spaces bs)) (named name text)
 
 value_at : (n : SettingName) (value : List ℕ) → list_all is_digit value ≡ true → value_in (name_of n) (front n value ++ 13 ∷ []) ≡ Some value
-value_at n value h = ap (value_of (name_of n)) (without_cr-at (front n value)) ∙ ap (λ (o : Option (List ℕ)). option_and_then (λ bs. Some (without_last_spaces bs)) o) (named_same n value) ∙ ap (λ (t : List ℕ). some t) (without_last-none value (digits_outer value h).last)
+value_at n value h = ap (value_of (name_of n)) (without_cr-at (front n value))
+    ∙ ap (λ (o : Option (List ℕ)). option_and_then (λ bs. Some (without_last_spaces bs)) o) (named_same n value)
+    ∙ ap (λ (t : List ℕ). some t) (without_last-none value (digits_outer value h).last)
   where
     some : List ℕ → Option (List ℕ)
     some t = Some t
@@ -80,9 +86,11 @@ abbrev IsOther : SettingName → SettingName → Type 0
 IsOther n m = (value : List ℕ) → named (name_of n) (front m value) ≡ None
 
 other_at : (n m : SettingName) → IsOther n m → (value : List ℕ) → value_in (name_of n) (front m value ++ 13 ∷ []) ≡ None
-other_at n m other value = ap (value_of (name_of n)) (without_cr-at (front m value)) ∙ ap (λ (o : Option (List ℕ)). option_and_then (λ bs. Some (without_last_spaces bs)) o) (other value)
+other_at n m other value = ap (value_of (name_of n)) (without_cr-at (front m value))
+    ∙ ap (λ (o : Option (List ℕ)). option_and_then (λ bs. Some (without_last_spaces bs)) o) (other value)
 
-module _ (a b c d : List ℕ) (ha : list_all is_digit a ≡ true) (hb : list_all is_digit b ≡ true) (hc : list_all is_digit c ≡ true) (hd : list_all is_digit d ≡ true) where
+module _ (a b c d : List ℕ) (ha : list_all is_digit a ≡ true) (hb : list_all is_digit b ≡ true) (hc : list_all is_digit c ≡ true)
+    (hd : list_all is_digit d ≡ true) where
   abbrev four : List ℕ
   four = line_text (name_of PacketSize) a ++ line_text (name_of MaxFps) b ++ line_text (name_of Minimum) c ++ line_text (name_of Duration) d
 
@@ -92,35 +100,63 @@ module _ (a b c d : List ℕ) (ha : list_all is_digit a ≡ true) (hb : list_all
       let lb = line_text (name_of MaxFps) b in
       let lc = line_text (name_of Minimum) c in
       let ld = line_text (name_of Duration) d in
-      let grouped : four ≡ la ++ (lb ++ (lc ++ (ld ++ []))) = append_assoc (la ++ lb) lc ld ∙ append_assoc la lb (lc ++ ld) ∙ ap (λ (u : List ℕ). la ++ (lb ++ (lc ++ u))) (sym (append-nil ld)) in
-      ap lines_of grouped ∙ line_of PacketSize a (lb ++ (lc ++ (ld ++ []))) ha ∙ ap (λ (ls : List (List ℕ)). (front PacketSize a ++ 13 ∷ []) ∷ ls) (line_of MaxFps b (lc ++ (ld ++ [])) hb ∙ ap (λ (ls : List (List ℕ)). (front MaxFps b ++ 13 ∷ []) ∷ ls) (line_of Minimum c (ld ++ []) hc ∙ ap (λ (ls : List (List ℕ)). (front Minimum c ++ 13 ∷ []) ∷ ls) (line_of Duration d [] hd)))
+      let grouped : four ≡ la ++ (lb ++ (lc ++ (ld ++ []))) = append_assoc (la ++ lb) lc ld ∙ append_assoc la lb (lc ++ ld)
+      ∙ ap (λ (u : List ℕ). la ++ (lb ++ (lc ++ u))) (sym (append-nil ld)) in
+      ap lines_of grouped ∙ line_of PacketSize a (lb ++ (lc ++ (ld ++ []))) ha
+      ∙ ap (λ (ls : List (List ℕ)). (front PacketSize a ++ 13 ∷ []) ∷ ls)
+      (line_of MaxFps b (lc ++ (ld ++ [])) hb ∙ ap (λ (ls : List (List ℕ)). (front MaxFps b ++ 13 ∷ []) ∷ ls)
+      (line_of Minimum c (ld ++ []) hc ∙ ap (λ (ls : List (List ℕ)). (front Minimum c ++ 13 ∷ []) ∷ ls) (line_of Duration d [] hd)))
 
   abbrev among : List ℕ → Option (List ℕ)
-  among name = later (value_in name (front PacketSize a ++ 13 ∷ [])) (later (value_in name (front MaxFps b ++ 13 ∷ [])) (later (value_in name (front Minimum c ++ 13 ∷ [])) (later (value_in name (front Duration d ++ 13 ∷ [])) None)))
+  among name = later (value_in name (front PacketSize a ++ 13 ∷ []))
+      (later (value_in name (front MaxFps b ++ 13 ∷ [])) (later (value_in name (front Minimum c ++ 13 ∷ []))
+      (later (value_in name (front Duration d ++ 13 ∷ [])) None)))
 
   last_is : (name : List ℕ) → last_value name four ≡ among name
   last_is name = ap (last_among name) four_lines
 
   last_packet : last_value (name_of PacketSize) four ≡ Some a
   unfolding front
-  last_packet = last_is (name_of PacketSize) ∙ (rw (value_at PacketSize a ha, other_at PacketSize MaxFps (λ v. refl) b, other_at PacketSize Minimum (λ v. refl) c, other_at PacketSize Duration (λ v. refl) d) refl)
+  last_packet = last_is (name_of PacketSize) ∙ (rw (
+    value_at PacketSize a ha,
+    other_at PacketSize MaxFps (λ v. refl) b,
+    other_at PacketSize Minimum (λ v. refl) c,
+    other_at PacketSize Duration (λ v. refl) d,
+  ) refl)
 
   last_fps : last_value (name_of MaxFps) four ≡ Some b
   unfolding front
-  last_fps = last_is (name_of MaxFps) ∙ (rw (other_at MaxFps PacketSize (λ v. refl) a, value_at MaxFps b hb, other_at MaxFps Minimum (λ v. refl) c, other_at MaxFps Duration (λ v. refl) d) refl)
+  last_fps = last_is (name_of MaxFps) ∙ (rw (
+    other_at MaxFps PacketSize (λ v. refl) a,
+    value_at MaxFps b hb,
+    other_at MaxFps Minimum (λ v. refl) c,
+    other_at MaxFps Duration (λ v. refl) d,
+  ) refl)
 
   last_minimum : last_value (name_of Minimum) four ≡ Some c
   unfolding front
-  last_minimum = last_is (name_of Minimum) ∙ (rw (other_at Minimum PacketSize (λ v. refl) a, other_at Minimum MaxFps (λ v. refl) b, value_at Minimum c hc, other_at Minimum Duration (λ v. refl) d) refl)
+  last_minimum = last_is (name_of Minimum) ∙ (rw (
+    other_at Minimum PacketSize (λ v. refl) a,
+    other_at Minimum MaxFps (λ v. refl) b,
+    value_at Minimum c hc,
+    other_at Minimum Duration (λ v. refl) d,
+  ) refl)
 
   last_duration : last_value (name_of Duration) four ≡ Some d
   unfolding front
-  last_duration = last_is (name_of Duration) ∙ (rw (other_at Duration PacketSize (λ v. refl) a, other_at Duration MaxFps (λ v. refl) b, other_at Duration Minimum (λ v. refl) c, value_at Duration d hd) refl)
+  last_duration = last_is (name_of Duration) ∙ (rw (
+    other_at Duration PacketSize (λ v. refl) a,
+    other_at Duration MaxFps (λ v. refl) b,
+    other_at Duration Minimum (λ v. refl) c,
+    value_at Duration d hd,
+  ) refl)
 
-number_at : (least most missing n : ℕ) (value : Option (List ℕ)) → value ≡ Some (decimal n) → least ≤ n → n ≤ most → n < 2 ^ 64 → number_in least most missing value ≡ Some n
+number_at : (least most missing n : ℕ) (value : Option (List ℕ)) → value ≡ Some (decimal n) → least ≤ n → n ≤ most → n < 2 ^ 64
+    → number_in least most missing value ≡ Some n
 number_at least most missing n value e low high fits =
     let test : leb least n ≡ true = grind (arith, nat_tests) in
-    ap (number_in least most missing) e ∙ ap (λ (o : Option ℕ). option_and_then (in_range least most) o) (decimal_up_to-decimal most n high fits) ∙ ap (λ (t : Bool). cond t (some n) None) test
+    ap (number_in least most missing) e ∙ ap (λ (o : Option ℕ). option_and_then (in_range least most) o) (decimal_up_to-decimal most n high fits)
+    ∙ ap (λ (t : Bool). cond t (some n) None) test
   where
     some : ℕ → Option ℕ
     some k = Some k
@@ -140,10 +176,15 @@ is_read_again s offer duration percentage audio ssrc =
     let dc = digits s.minimum minimum_fits in
     let dd = digits s.duration duration_fits in
     record {
-      packet = number_at 1024 1440 1392 s.packet _ (last_packet (decimal s.packet) (decimal s.fps) (decimal s.minimum) (decimal s.duration) da db dc dd) s.packet_least s.packet_greatest packet_fits;
-      fps = number_at 1 240 60 s.fps _ (last_fps (decimal s.packet) (decimal s.fps) (decimal s.minimum) (decimal s.duration) da db dc dd) s.fps_least s.fps_greatest fps_fits;
-      minimum = number_at 0 2 2 s.minimum _ (last_minimum (decimal s.packet) (decimal s.fps) (decimal s.minimum) (decimal s.duration) da db dc dd) (omega arith) s.minimum_greatest minimum_fits;
-      duration = number_at offer.duration offer.duration offer.duration s.duration _ (last_duration (decimal s.packet) (decimal s.fps) (decimal s.minimum) (decimal s.duration) da db dc dd) (omega (arith, duration)) (omega (arith, duration)) duration_fits;
+      packet = number_at 1024 1440 1392 s.packet _ (last_packet (decimal s.packet) (decimal s.fps) (decimal s.minimum) (decimal s.duration) da db dc dd)
+          s.packet_least s.packet_greatest packet_fits;
+      fps = number_at 1 240 60 s.fps _ (last_fps (decimal s.packet) (decimal s.fps) (decimal s.minimum) (decimal s.duration) da db dc dd) s.fps_least
+          s.fps_greatest fps_fits;
+      minimum = number_at 0 2 2 s.minimum _ (last_minimum (decimal s.packet) (decimal s.fps) (decimal s.minimum) (decimal s.duration) da db dc dd)
+          (omega arith) s.minimum_greatest minimum_fits;
+      duration = number_at offer.duration offer.duration offer.duration s.duration _
+          (last_duration (decimal s.packet) (decimal s.fps) (decimal s.minimum) (decimal s.duration) da db dc dd) (omega (arith, duration))
+          (omega (arith, duration)) duration_fits;
       percentage = sym percentage;
       audio = sym audio;
       ssrc = sym ssrc;

@@ -41,15 +41,22 @@ module _ (body : List ℕ) (start i : ℕ) (order : start ≤ i) where
         let size : i - start < length (drop start body) = omega (arith, length-drop start body) in
         let next : i + 1 - start ≡ i - start + 1 = omega arith in
         let place : start + (i - start) ≡ i = omega arith in
-        ap (λ (n : ℕ). take n (drop start body)) next ∙ take_more (drop start body) (i - start) 0 size ∙ ap (λ (b : ℕ). take (i - start) (drop start body) ++ b ∷ []) (get_or-drop start body (i - start) 0 ∙ ap (λ (n : ℕ). get_or body n 0) place)
+        ap (λ (n : ℕ). take n (drop start body)) next ∙ take_more (drop start body) (i - start) 0 size
+        ∙ ap (λ (b : ℕ). take (i - start) (drop start body) ++ b ∷ []) (get_or-drop start body (i - start) 0 ∙ ap (λ (n : ℕ). get_or body n 0) place)
 
-    pub goes_on : (get_or body i 0 ≡ 10 → ⊥) → IsInLine → lines_of (drop start body) ≡ with_front (take (i + 1 - start) (drop start body)) (lines_of (drop (i + 1) body))
+    pub goes_on : (get_or body i 0 ≡ 10 → ⊥) → IsInLine → lines_of (drop start body) ≡ with_front (take (i + 1 - start) (drop start body))
+        (lines_of (drop (i + 1) body))
     goes_on other h =
-        h ∙ ap (λ (s : List ℕ). with_front (take (i - start) (drop start body)) (lines_of s)) rest_of ∙ ap (with_front (take (i - start) (drop start body))) (lines_other (get_or body i 0) (drop (i + 1) body) other) ∙ front_byte (take (i - start) (drop start body)) (get_or body i 0) (lines_of (drop (i + 1) body)) ∙ ap (λ (f : List ℕ). with_front f (lines_of (drop (i + 1) body))) (sym one_more)
+        h ∙ ap (λ (s : List ℕ). with_front (take (i - start) (drop start body)) (lines_of s)) rest_of
+        ∙ ap (with_front (take (i - start) (drop start body))) (lines_other (get_or body i 0) (drop (i + 1) body) other)
+        ∙ front_byte (take (i - start) (drop start body)) (get_or body i 0) (lines_of (drop (i + 1) body))
+        ∙ ap (λ (f : List ℕ). with_front f (lines_of (drop (i + 1) body))) (sym one_more)
 
     pub ends : get_or body i 0 ≡ 10 → IsInLine → lines_of (drop start body) ≡ take (i - start) (drop start body) ∷ lines_of (drop (i + 1) body)
     ends same h =
-        h ∙ ap (λ (s : List ℕ). with_front (take (i - start) (drop start body)) (lines_of s)) rest_of ∙ ap (with_front (take (i - start) (drop start body))) (lines_feed (get_or body i 0) (drop (i + 1) body) same) ∙ ap (λ (l : List ℕ). l ∷ lines_of (drop (i + 1) body)) (append-nil (take (i - start) (drop start body)))
+        h ∙ ap (λ (s : List ℕ). with_front (take (i - start) (drop start body)) (lines_of s)) rest_of
+        ∙ ap (with_front (take (i - start) (drop start body))) (lines_feed (get_or body i 0) (drop (i + 1) body) same)
+        ∙ ap (λ (l : List ℕ). l ∷ lines_of (drop (i + 1) body)) (append-nil (take (i - start) (drop start body)))
 
   pub none_left : length body ≤ i → IsInLine → lines_of (drop start body) ≡ []
   none_left le h = h ∙ ap (λ (s : List ℕ). with_front (take (i - start) (drop start body)) (lines_of s)) (drop_all i body le)
@@ -65,5 +72,7 @@ later_later : (a b c : Option (List ℕ)) → later a (later b c) ≡ later (lat
 later_later a b None = refl
 later_later a b (Some value) = refl
 
-pub found_more : (name line : List ℕ) (lines : List (List ℕ)) (found : Option (List ℕ)) (all : Option (List ℕ)) (rest : List (List ℕ)) → rest ≡ line ∷ lines → later found (last_among name rest) ≡ all → later (later found (value_in name line)) (last_among name lines) ≡ all
-found_more name line lines found all rest e h = sym (later_later found (value_in name line) (last_among name lines)) ∙ ap (λ (ls : List (List ℕ)). later found (last_among name ls)) (sym e) ∙ h
+pub found_more : (name line : List ℕ) (lines : List (List ℕ)) (found : Option (List ℕ)) (all : Option (List ℕ)) (rest : List (List ℕ)) → rest ≡ line ∷ lines
+    → later found (last_among name rest) ≡ all → later (later found (value_in name line)) (last_among name lines) ≡ all
+found_more name line lines found all rest e h = sym (later_later found (value_in name line) (last_among name lines))
+    ∙ ap (λ (ls : List (List ℕ)). later found (last_among name ls)) (sym e) ∙ h

@@ -27,7 +27,8 @@ behind prefix bs = if starts_with nat_eq bs prefix then Some (drop (length prefi
 -- the value of a line `a=NAME:VALUE` of this name, without the spaces at its end
 abbrev pub value_in : List ℕ → List ℕ → Option (List ℕ)
 value_in name line =
-    option_and_then (λ bs. Some (without_last_spaces bs)) (option_and_then (behind (codes ":")) (option_and_then (behind name) (behind (codes "a=") (without_cr line))))
+    option_and_then (λ bs. Some (without_last_spaces bs))
+    (option_and_then (behind (codes ":")) (option_and_then (behind name) (behind (codes "a=") (without_cr line))))
 
 -- the later of two
 abbrev pub later : Option (List ℕ) → Option (List ℕ) → Option (List ℕ)

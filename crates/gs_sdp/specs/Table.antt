@@ -1,6 +1,7 @@
 -- The attributes that name a stream's settings.
 use Rattle.std.specs.Prelude.{◌≡◌, ℕ, ◌++◌, nat_le, List, codes, decimal, Option, Some, None, IsSome, option_and_then, if◌then◌else◌}
 use Rattle.gs_bytes.specs.Numbers.{decimal_up_to}
+use Rattle.gs_rtp.specs.Limits.{least_packet, most_packet, least_fps, most_fps, most_minimum}
 use Rattle.gs_rtp.specs.declared.settings.Settings.{Settings}
 use Rattle.gs_sdp.specs.declared.attributes.SettingName.{SettingName}
 use Rattle.gs_sdp.specs.declared.attributes.SettingName.TheVariants.{PacketSize, MaxFps, Minimum, Duration}
@@ -22,10 +23,11 @@ number_in least most missing (Some value) = option_and_then (in_range least most
 
 -- each setting that a body names, with its range and what it is where its name is missing
 abbrev pub setting : SettingName → List ℕ → Settings → Option ℕ
-setting PacketSize body offer = number_in 1024 1440 1392 (last_value (name_of PacketSize) body)
-setting MaxFps body offer = number_in 1 240 60 (last_value (name_of MaxFps) body)
-setting Minimum body offer = number_in 0 2 2 (last_value (name_of Minimum) body)
-setting Duration body offer = number_in offer.duration offer.duration offer.duration (last_value (name_of Duration) body)
+setting PacketSize body offer = number_in least_packet most_packet 1392 (last_value (name_of PacketSize) body)
+setting MaxFps body offer = number_in least_fps most_fps 60 (last_value (name_of MaxFps) body)
+setting Minimum body offer = number_in 0 most_minimum 2 (last_value (name_of Minimum) body)
+setting Duration body offer = number_in offer.duration offer.duration offer.duration
+    (last_value (name_of Duration) body)
 
 -- the settings by a body over an offer: the others are the offer's
 pub record AreSettings (body : List ℕ) (offer s : Settings) : Type 0 where
@@ -41,8 +43,10 @@ pub record AreSettings (body : List ℕ) (offer s : Settings) : Type 0 where
 abbrev pub IsFirstBad : List ℕ → Settings → SettingName → Type 0
 IsFirstBad body offer PacketSize = setting PacketSize body offer ≡ None
 IsFirstBad body offer MaxFps = IsSome (setting PacketSize body offer) × (setting MaxFps body offer ≡ None)
-IsFirstBad body offer Minimum = IsSome (setting PacketSize body offer) × IsSome (setting MaxFps body offer) × (setting Minimum body offer ≡ None)
-IsFirstBad body offer Duration = IsSome (setting PacketSize body offer) × IsSome (setting MaxFps body offer) × IsSome (setting Minimum body offer) × (setting Duration body offer ≡ None)
+IsFirstBad body offer Minimum = IsSome (setting PacketSize body offer) × IsSome (setting MaxFps body offer)
+    × (setting Minimum body offer ≡ None)
+IsFirstBad body offer Duration = IsSome (setting PacketSize body offer) × IsSome (setting MaxFps body offer)
+    × IsSome (setting Minimum body offer) × (setting Duration body offer ≡ None)
 
 -- the body that names the settings
 abbrev pub body_text : Settings → List ℕ
@@ -51,4 +55,5 @@ body_text s = line_text (name_of PacketSize) (decimal s.packet) ++ line_text (na
 
 -- what is written is read again, over an offer with the same duration
 abbrev pub IsReadAgain : Type 0
-IsReadAgain = (s offer : Settings) → offer.duration ≡ s.duration → offer.percentage ≡ s.percentage → offer.audio ≡ s.audio → offer.ssrc ≡ s.ssrc → AreSettings (body_text s) offer s
+IsReadAgain = (s offer : Settings) → offer.duration ≡ s.duration → offer.percentage ≡ s.percentage
+    → offer.audio ≡ s.audio → offer.ssrc ≡ s.ssrc → AreSettings (body_text s) offer s

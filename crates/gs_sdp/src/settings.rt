@@ -8,25 +8,15 @@ ghost use Rattle.gs_sdp.specs.Table.{name_of, number_in, AreSettings, IsFirstBad
 use crate::attributes::{BadSetting, SettingName};
 use crate::lines::last_value;
 use gs_bytes::parse_number;
-use gs_rtp::Settings;
+use gs_rtp::{FPS_GREATEST, FPS_LEAST, MINIMUM_GREATEST, PACKET_GREATEST, PACKET_LEAST, Settings};
 
-/// The packet sizes that may be announced, and the one where none is.
-const PACKET_LEAST: u32 = 1_024;
-
-const PACKET_GREATEST: u32 = 1_440;
-
+/// The packet size where none is announced.
 const PACKET_MISSING: u32 = 1_392;
 
-/// The frames per second that may be announced, and those where none are.
-const FPS_LEAST: u32 = 1;
-
-const FPS_GREATEST: u32 = 240;
-
+/// The frames per second where none are announced.
 const FPS_MISSING: u32 = 60;
 
-/// The least numbers of parity shards that may be announced, and the one where none is.
-const MINIMUM_GREATEST: u32 = 2;
-
+/// The least number of parity shards where none is announced.
 const MINIMUM_MISSING: u32 = 2;
 
 /// The number of a setting within its range, or another where its name is missing.
@@ -74,22 +64,22 @@ pub fn settings_of(body: &[u8], offer: &Settings) -> Result<Settings, BadSetting
     let packet = number(
         body,
         SettingName::PacketSize,
-        PACKET_LEAST,
-        PACKET_GREATEST,
+        u32::from(PACKET_LEAST),
+        u32::from(PACKET_GREATEST),
         PACKET_MISSING,
     )?;
     let fps = number(
         body,
         SettingName::MaxFps,
-        FPS_LEAST,
-        FPS_GREATEST,
+        u32::from(FPS_LEAST),
+        u32::from(FPS_GREATEST),
         FPS_MISSING,
     )?;
     let minimum = number(
         body,
         SettingName::Minimum,
         0,
-        MINIMUM_GREATEST,
+        u32::from(MINIMUM_GREATEST),
         MINIMUM_MISSING,
     )?;
     let duration = u32::from(offer.duration);

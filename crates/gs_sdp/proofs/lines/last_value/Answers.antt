@@ -13,11 +13,13 @@ loop-i-preserved c =
     elim c.if-byte-eq10.branch [
       | then-byte-eq10 w ↦
           let line = take (l.i - l.start) (drop l.start body) in
-          let e : option_copied w.later-found.result ≡ later (option_copied l.found) (value_in name line) = w.later-found.ensures ∙ ap (later (option_copied l.found)) w.value_in.ensures in
+          let e : option_copied w.later-found.result ≡ later (option_copied l.found) (value_in name line) =
+          w.later-found.ensures ∙ ap (later (option_copied l.found)) w.value_in.ensures in
           rw (w.start-is, w.found-is, e) (record {
             start = omega arith;
             line = at_start body (l.i + 1);
-            found = found_more name line (lines_of (drop (l.i + 1) body)) (option_copied l.found) (last_value name body) (lines_of (drop l.start body)) (ends body l.start l.i l.invariant.start c.loop-i-test.true w.if-byte-eq10.true l.invariant.line) l.invariant.found;
+            found = found_more name line (lines_of (drop (l.i + 1) body)) (option_copied l.found) (last_value name body) (lines_of (drop l.start body))
+                (ends body l.start l.i l.invariant.start c.loop-i-test.true w.if-byte-eq10.true l.invariant.line) l.invariant.found;
           })
       | else-byte-eq10 w ↦
           rw (w.start-is, w.found-is) (record {

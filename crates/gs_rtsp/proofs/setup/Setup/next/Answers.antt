@@ -14,4 +14,6 @@ returns-in_ok-step-in-Ok-clause-next c = λ want host replies a.
     let reply = option_copied c.args.reply in
     let setup = c.args.self.now in
     let j = c.in-Ok.ensures.judged want host replies a in
-    next_is setup want host (with_reply reply replies) c.in-Ok.settings c.in_ok-step-in-Ok.step a.host_is (asked_is setup want host replies reply (is_some_map (λ x. x.now) c.args.reply ∙ c.requires.reply) c.in-Ok.ensures.faultless a) j.0 j.1 c.in_ok-step-in-Ok.ensures.step
+    next_is setup want host (with_reply reply replies) c.in-Ok.settings c.in_ok-step-in-Ok.step a.host_is
+    (asked_is setup want host replies reply (is_some_map (λ x. x.now) c.args.reply ∙ c.requires.reply) c.in-Ok.ensures.faultless a) j.0 j.1
+    c.in_ok-step-in-Ok.ensures.step

@@ -1,6 +1,0 @@
-/// An IPv4 address, its most significant byte first in its text form, and a port.
-#[derive(Clone, Copy, Debug, PartialEq, Eq)]
-pub struct Addr {
-    pub ip: u32,
-    pub port: u16,
-}
