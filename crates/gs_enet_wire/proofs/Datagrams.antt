@@ -3,12 +3,11 @@ use Rattle.std.proofs.Common.{cond, suc, get_or, le-leb, ltb, eqb, ◌≡◌, �
 use Rattle.std.specs.Prelude.{is_some, MatchBool, nat_le, ◌==◌, ◌||◌}
 use Rattle.std.proofs.lemmas.Bool.{ne_eqb, lt-leb, le-ltb}
 use Rattle.std.proofs.lemmas.List.{drop_at, append-nil, append_cancel_right}
-use Rattle.byteorder.specs.Endian.{big_from}
 use Rattle.byteorder.specs.Numbers.{big_number-reads_back}
 use Rattle.gs_enet_wire.specs.declared.command.Command.{Command}
 use Rattle.gs_enet_wire.specs.declared.datagram.Datagram.{Datagram}
-use Rattle.gs_enet_wire.specs.Grammar.{IsCommand, AreCommands, BeginsNoCommand, after_first, Field, field_bytes, fields_bytes, u16, asking, header_word, sent_field, header, HasHeader, most_bytes, Spells, is_compressed, is_timed, header_length, StopsAt, IsFaultAt}
-use Rattle.gs_bytes.specs.Field.{be_value}
+use Rattle.gs_enet_wire.specs.Grammar.{IsCommand, AreCommands, BeginsNoCommand, after_first, Field, field_bytes, fields_bytes, u16, asking, header_word, sent_field, header, HasHeader, most_datagram, Spells, is_compressed, is_timed, header_length, StopsAt, IsFaultAt}
+use Rattle.gs_bytes.specs.Field.{big_from}
 use Rattle.gs_enet_wire.proofs.FieldLemmas.{widths, values, fields_same}
 use Rattle.gs_enet_wire.proofs.OneCommand.{command_same, asking_same}
 
@@ -54,7 +53,7 @@ word_small : (d : Datagram) → HasHeader d → header_word d < 65536
 word_small d h = omega (arith, h.peer, h.session, asking_le (is_some d.sent))
 
 -- the first two bytes of a spelled datagram
-pub word_is : (d : Datagram) (body : List ℕ) → HasHeader d → be_value 2 0 (fields_bytes (header d) ++ body) ≡ header_word d
+pub word_is : (d : Datagram) (body : List ℕ) → HasHeader d → big_from 0 2 (fields_bytes (header d) ++ body) ≡ header_word d
 word_is d body h =
     let tail = fields_bytes (sent_field d.sent) in
     ap (big_from 0 2) (append_assoc (field_bytes (u16 (header_word d))) tail body) ∙ big_number-reads_back 2 (header_word d) (tail ++ body) (word_small d h)
@@ -103,15 +102,15 @@ pub record Headed (bytes body : List ℕ) (d : Datagram) : Type 0 where
 
 pub headed : (bytes body : List ℕ) (d : Datagram) → HasHeader d → bytes ≡ fields_bytes (header d) ++ body → Headed bytes body d
 headed bytes body d h spelled =
-    let word : be_value 2 0 bytes ≡ header_word d = ap (be_value 2 0) spelled ∙ word_is d body h in
-    let is_timed_so : is_timed bytes ≡ is_some d.sent = timed_is d (be_value 2 0 bytes) h word in
+    let word : big_from 0 2 bytes ≡ header_word d = ap (big_from 0 2) spelled ∙ word_is d body h in
+    let is_timed_so : is_timed bytes ≡ is_some d.sent = timed_is d (big_from 0 2 bytes) h word in
     let sized : header_length bytes ≡ length (fields_bytes (header d)) =
     ap (λ (b : Bool). cond b 4 2) is_timed_so ∙ sym (length-header (header_word d) d.sent) in
     let long : length bytes ≡ length (fields_bytes (header d)) + length body =
     ap length spelled ∙ length-append (fields_bytes (header d)) body in
     let two : 2 ≤ length (fields_bytes (header d)) = omega (arith, length-append (field_bytes (u16 (header_word d))) (fields_bytes (sent_field d.sent))) in
     let enough : ltb (length bytes) 2 ≡ false = le-ltb _ _ (omega arith) in
-    let plain : is_compressed bytes ≡ false = not_compressed d (be_value 2 0 bytes) h word in
+    let plain : is_compressed bytes ≡ false = not_compressed d (big_from 0 2 bytes) h word in
     record {
       timed = is_timed_so;
       header_len = sized;
@@ -126,7 +125,7 @@ pub not_both : (bytes : List ℕ) (d : Datagram) (place : ℕ) → Spells bytes 
 not_both bytes d place s f =
     let h = headed bytes s.body d s.has_header s.spelled in
     let some = body_some (is_some d.sent) s.body d.commands s.some s.commands in
-    let first : ltb most_bytes (length bytes) ≡ false = le-ltb _ _ s.short in
+    let first : ltb most_datagram (length bytes) ≡ false = le-ltb _ _ s.short in
     let second : (ltb (length bytes) 2 || is_compressed bytes) ≡ false = h.whole in
     let third : ltb (length bytes) (header_length bytes) ≡ false = h.time in
     let fourth : eqb (length bytes) (header_length bytes) ≡ false = ne_eqb _ _ (omega arith) in
@@ -148,7 +147,7 @@ one_place bytes p q =
     let third : ℕ → Type 0 = λ n. MatchBool (eqb (length bytes) (header_length bytes)) (n ≡ length bytes) (fourth n) in
     let second : ℕ → Type 0 = λ n. MatchBool (ltb (length bytes) (header_length bytes)) (n ≡ 2) (third n) in
     let first : ℕ → Type 0 = λ n. MatchBool (ltb (length bytes) 2 || is_compressed bytes) (n ≡ 0) (second n) in
-    stage_both (ltb most_bytes (length bytes)) most_bytes p q first
+    stage_both (ltb most_datagram (length bytes)) most_datagram p q first
     (stage_both (ltb (length bytes) 2 || is_compressed bytes) 0 p q second
     (stage_both (ltb (length bytes) (header_length bytes)) 2 p q third
     (stage_both (eqb (length bytes) (header_length bytes)) (length bytes) p q fourth
@@ -175,7 +174,7 @@ sent_widths (Some t) (Some u) e = refl
 pub one_value : (bytes : List ℕ) (d e : Datagram) → Spells bytes d → Spells bytes e → d ≡ e
 one_value bytes d e s s' =
     let words : header_word d ≡ header_word e =
-    sym (ap (be_value 2 0) s.spelled ∙ word_is d s.body s.has_header) ∙ ap (be_value 2 0) s'.spelled ∙ word_is e s'.body s'.has_header in
+    sym (ap (big_from 0 2) s.spelled ∙ word_is d s.body s.has_header) ∙ ap (big_from 0 2) s'.spelled ∙ word_is e s'.body s'.has_header in
     let h = s.has_header in
     let h' = s'.has_header in
     let low = asking_le (is_some d.sent) in

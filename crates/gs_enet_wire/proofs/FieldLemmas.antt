@@ -30,8 +30,10 @@ pair_same f g w n = ap (λ (k : ℕ). field_of k f.1) w ∙ ap (λ (k : ℕ). fi
 pub field_same : (f g : Field) (x y : List ℕ) → f.0 ≡ g.0 → f.1 < 256 ^ f.0 → g.1 < 256 ^ g.0
     → field_bytes f ++ x ≡ field_bytes g ++ y → (f.1 ≡ g.1) × (x ≡ y)
 field_same f g x y wide small small' e =
-    let number : f.1 ≡ g.1 = sym (big_number-reads_back f.0 f.1 x small) ∙ ap (big_from 0 f.0) e ∙ ap (λ (n : ℕ). big_from 0 n (field_bytes g ++ y)) wide ∙ big_number-reads_back g.0 g.1 y small' in
-    let rest : x ≡ y = sym (drop_at (field_bytes f) x f.0 (length-field_bytes f)) ∙ ap (drop f.0) e ∙ drop_at (field_bytes g) y f.0 (length-field_bytes g ∙ sym wide) in
+    let number : f.1 ≡ g.1 = sym (big_number-reads_back f.0 f.1 x small) ∙ ap (big_from 0 f.0) e ∙ ap (λ (n : ℕ). big_from 0 n (field_bytes g ++ y)) wide
+    ∙ big_number-reads_back g.0 g.1 y small' in
+    let rest : x ≡ y = sym (drop_at (field_bytes f) x f.0 (length-field_bytes f)) ∙ ap (drop f.0) e
+    ∙ drop_at (field_bytes g) y f.0 (length-field_bytes g ∙ sym wide) in
     (number, rest)
 
 -- the same for fields one after the other

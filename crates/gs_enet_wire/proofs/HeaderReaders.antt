@@ -5,15 +5,15 @@ use Rattle.std.proofs.lemmas.List.{append-nil}
 use Rattle.std.proofs.lemmas.Nat.{and_mask}
 use Rattle.std.proofs.lemmas.Nat.Bits.{and_pow}
 use Rattle.byteorder.specs.Numbers.{big_number-reads_back}
-use Rattle.gs_bytes.specs.Field.{be_value}
+use Rattle.gs_bytes.specs.Field.{big_from}
 use Rattle.gs_enet_wire.specs.declared.command.Command.{Command}
 use Rattle.gs_enet_wire.specs.Grammar.{u16, field_bytes, asking, IsCommand, AreCommands, BeginsNoCommand, StopsAt}
 use Rattle.gs_enet_wire.specs.Reading.{Takes, TakesCommand}
 use Rattle.gs_enet_wire.specs.ReadingHeader.{TakesTime, TakesHeader, TakesCommands}
 
 -- the number that was taken is the one that the bytes begin with
-pub word_taken : (word : ℕ) (old new : List ℕ) → Takes (u16 word ∷ []) old new → be_value 2 0 old ≡ word
-word_taken word old new t = ap (be_value 2 0) t.parts ∙ big_number-reads_back 2 word new t.fit.0
+pub word_taken : (word : ℕ) (old new : List ℕ) → Takes (u16 word ∷ []) old new → big_from 0 2 old ≡ word
+word_taken word old new t = ap (big_from 0 2) t.parts ∙ big_number-reads_back 2 word new t.fit.0
 
 pub compressed_bit : (word : ℕ) → bit_and word 16384 ≡ word / 16384 % 2 * 16384
 compressed_bit word = and_pow word 14
@@ -31,7 +31,8 @@ takes_header word sent old mid new t plain time =
     t.parts ∙ ap (λ (n : ℕ). field_bytes (u16 n) ++ mid) whole in
     record {
       has_header = record { peer = omega arith; session = omega arith; sent = time.fit };
-      parts = first ∙ ap (λ (l : List ℕ). field_bytes (u16 (bit_and word 4095 + 4096 * bit_and (word / 4096) 3 + 32768 * asking (is_some sent))) ++ l) time.parts;
+      parts = first ∙ ap (λ (l : List ℕ). field_bytes (u16 (bit_and word 4095 + 4096 * bit_and (word / 4096) 3 + 32768 * asking (is_some sent))) ++ l)
+          time.parts;
     }
 
 pub commands_push : (t : Bool) (a b : List ℕ) (cs : List Command) (c : Command) → AreCommands t a cs → IsCommand t b c → AreCommands t (a ++ b) (cs ++ c ∷ [])
@@ -41,7 +42,8 @@ commands_push t a b (d ∷ cs) c p q =
     (p.0, p.1 ++ b, ap (λ (l : List ℕ). l ++ b) p.2 ∙ append_assoc p.0 p.1 b, p.3, commands_push t p.1 b cs c p.4 q)
 
 -- one more command
-pub takes_more : (t : Bool) (cs : List Command) (c : Command) (old mid new : List ℕ) → TakesCommands t cs old mid → TakesCommand t c mid new → TakesCommands t (cs ++ c ∷ []) old new
+pub takes_more : (t : Bool) (cs : List Command) (c : Command) (old mid new : List ℕ) → TakesCommands t cs old mid → TakesCommand t c mid new
+    → TakesCommands t (cs ++ c ∷ []) old new
 takes_more t cs c old mid new p q = record {
   front = p.front ++ q.front;
   parts = p.parts ∙ ap (λ (l : List ℕ). p.front ++ l) q.parts ∙ sym (append_assoc p.front q.front new);

@@ -6,10 +6,10 @@ use Rattle.std.proofs.lemmas.Bool.{false≢true, ltb-false}
 use Rattle.std.proofs.lemmas.Bool.Decides.{nat_tests}
 use Rattle.std.proofs.lemmas.List.{append-nil}
 use Rattle.std.proofs.lemmas.Nat.{be_bytes_2}
-use Rattle.gs_bytes.specs.Field.{be_value}
+use Rattle.gs_bytes.specs.Field.{big_from}
 use Rattle.gs_enet_wire.specs.declared.command.Command.{Command}
 use Rattle.gs_enet_wire.specs.declared.datagram.Datagram.{Datagram}
-use Rattle.gs_enet_wire.specs.Grammar.{u16, field_bytes, fields_bytes, header, HasHeader, most_bytes, Spells, is_compressed, is_timed, header_length, after_first, AreCommands, StopsAt}
+use Rattle.gs_enet_wire.specs.Grammar.{u16, field_bytes, fields_bytes, header, HasHeader, most_datagram, Spells, is_compressed, is_timed, header_length, after_first, AreCommands, StopsAt}
 use Rattle.gs_enet_wire.specs.Laws.{NotNeither}
 use Rattle.gs_enet_wire.proofs.HeaderReaders.{commands_push}
 
@@ -38,8 +38,10 @@ abbrev datagram : ℕ → ℕ → Option ℕ → List Command → Datagram
 datagram peer session sent commands = record { peer = peer; session = session; sent = sent; commands = commands }
 
 -- the same behind a whole header
-ending : (bytes body : List ℕ) (peer session : ℕ) (sent : Option ℕ) → HasHeader (datagram peer session sent []) → bytes ≡ fields_bytes (header (datagram peer session sent [])) ++ body
-    → length bytes ≤ most_bytes → body ≢ [] → ((d : Datagram) → Spells bytes d → ⊥) → ((place : ℕ) → StopsAt (is_some sent) (header_length bytes) body place → ⊥) → ⊥
+ending : (bytes body : List ℕ) (peer session : ℕ) (sent : Option ℕ) → HasHeader (datagram peer session sent [])
+    → bytes ≡ fields_bytes (header (datagram peer session sent [])) ++ body
+    → length bytes ≤ most_datagram → body ≢ [] → ((d : Datagram) → Spells bytes d → ⊥)
+    → ((place : ℕ) → StopsAt (is_some sent) (header_length bytes) body place → ⊥) → ⊥
 ending bytes body peer session sent h parts short some no_value no_stop =
     walk (length body) (header_length bytes) (is_some sent) [] body [] (omega arith) refl
     (λ cs are. no_value (datagram peer session sent cs) (record {
@@ -68,29 +70,33 @@ small_at a b zero sa sb = sa
 small_at a b (suc zero) sa sb = sb
 small_at a b (suc (suc i)) sa sb = omega arith
 
-two_bytes : (a b : ℕ) → a < 256 → b < 256 → field_bytes (u16 (be_value 2 0 (a ∷ b ∷ []))) ≡ a ∷ b ∷ []
-two_bytes a b sa sb = be_bytes_2 (a ∷ b ∷ []) (be_value 2 0 (a ∷ b ∷ [])) refl (λ i. small_at a b i sa sb) (omega arith)
+two_bytes : (a b : ℕ) → a < 256 → b < 256 → field_bytes (u16 (big_from 0 2 (a ∷ b ∷ []))) ≡ a ∷ b ∷ []
+two_bytes a b sa sb = be_bytes_2 (a ∷ b ∷ []) (big_from 0 2 (a ∷ b ∷ [])) refl (λ i. small_at a b i sa sb) (omega arith)
 
 -- the first two bytes without a sent time behind them
-untimed : (a b : ℕ) (body bytes : List ℕ) → a < 256 → b < 256 → bytes ≡ a ∷ b ∷ body → be_value 2 0 bytes / 16384 % 2 ≡ 0 → be_value 2 0 bytes < 32768 → length bytes ≤ most_bytes
+untimed : (a b : ℕ) (body bytes : List ℕ) → a < 256 → b < 256 → bytes ≡ a ∷ b ∷ body → big_from 0 2 bytes / 16384 % 2 ≡ 0 → big_from 0 2 bytes < 32768
+    → length bytes ≤ most_datagram
     → body ≢ [] → ((d : Datagram) → Spells bytes d → ⊥) → ((place : ℕ) → StopsAt false (header_length bytes) body place → ⊥) → ⊥
 untimed a b body bytes sa sb is plain low short some no_value no_stop =
-    let w : ℕ = be_value 2 0 (a ∷ b ∷ []) in
-    let word : be_value 2 0 bytes ≡ w = ap (be_value 2 0) is in
+    let w : ℕ = big_from 0 2 (a ∷ b ∷ []) in
+    let word : big_from 0 2 bytes ≡ w = ap (big_from 0 2) is in
     let said : w ≡ w % 4096 + 4096 * (w / 4096 % 4) + 32768 * 0 = omega (arith, word) in
-    let first : field_bytes (u16 (w % 4096 + 4096 * (w / 4096 % 4) + 32768 * 0)) ≡ a ∷ b ∷ [] = ap (λ (k : ℕ). field_bytes (u16 k)) (sym said) ∙ two_bytes a b sa sb in
+    let first : field_bytes (u16 (w % 4096 + 4096 * (w / 4096 % 4) + 32768 * 0)) ≡ a ∷ b ∷ [] =
+    ap (λ (k : ℕ). field_bytes (u16 k)) (sym said) ∙ two_bytes a b sa sb in
     ending bytes body (w % 4096) (w / 4096 % 4) None (record { peer = omega arith; session = omega arith; sent = tt })
     (is ∙ sym (ap (λ (l : List ℕ). l ++ body) first)) short some no_value no_stop
 
 -- and with it
-with_time : (a b c d : ℕ) (body bytes : List ℕ) → a < 256 → b < 256 → c < 256 → d < 256 → bytes ≡ a ∷ b ∷ c ∷ d ∷ body → be_value 2 0 bytes / 16384 % 2 ≡ 0 → 32768 ≤ be_value 2 0 bytes
-    → length bytes ≤ most_bytes → body ≢ [] → ((d : Datagram) → Spells bytes d → ⊥) → ((place : ℕ) → StopsAt true (header_length bytes) body place → ⊥) → ⊥
+with_time : (a b c d : ℕ) (body bytes : List ℕ) → a < 256 → b < 256 → c < 256 → d < 256 → bytes ≡ a ∷ b ∷ c ∷ d ∷ body → big_from 0 2 bytes / 16384 % 2 ≡ 0
+    → 32768 ≤ big_from 0 2 bytes
+    → length bytes ≤ most_datagram → body ≢ [] → ((d : Datagram) → Spells bytes d → ⊥) → ((place : ℕ) → StopsAt true (header_length bytes) body place → ⊥) → ⊥
 with_time a b c d body bytes sa sb sc sd is plain high short some no_value no_stop =
-    let w : ℕ = be_value 2 0 (a ∷ b ∷ []) in
-    let t : ℕ = be_value 2 0 (c ∷ d ∷ []) in
-    let word : be_value 2 0 bytes ≡ w = ap (be_value 2 0) is in
+    let w : ℕ = big_from 0 2 (a ∷ b ∷ []) in
+    let t : ℕ = big_from 0 2 (c ∷ d ∷ []) in
+    let word : big_from 0 2 bytes ≡ w = ap (big_from 0 2) is in
     let said : w ≡ w % 4096 + 4096 * (w / 4096 % 4) + 32768 * 1 = omega (arith, word) in
-    let first : field_bytes (u16 (w % 4096 + 4096 * (w / 4096 % 4) + 32768 * 1)) ≡ a ∷ b ∷ [] = ap (λ (k : ℕ). field_bytes (u16 k)) (sym said) ∙ two_bytes a b sa sb in
+    let first : field_bytes (u16 (w % 4096 + 4096 * (w / 4096 % 4) + 32768 * 1)) ≡ a ∷ b ∷ [] =
+    ap (λ (k : ℕ). field_bytes (u16 k)) (sym said) ∙ two_bytes a b sa sb in
     let second : field_bytes (u16 t) ≡ c ∷ d ∷ [] = two_bytes c d sc sd in
     let both : field_bytes (u16 (w % 4096 + 4096 * (w / 4096 % 4) + 32768 * 1)) ++ field_bytes (u16 t) ≡ a ∷ b ∷ c ∷ d ∷ [] =
     ap (λ (l : List ℕ). l ++ field_bytes (u16 t)) first ∙ ap (λ (l : List ℕ). (a ∷ b ∷ []) ++ l) second in
@@ -98,7 +104,8 @@ with_time a b c d body bytes sa sb sc sd is plain high short some no_value no_st
     (is ∙ sym (ap (λ (l : List ℕ). l ++ body) both)) short some no_value no_stop
 
 -- the bytes behind the tests of the header
-behind : (bytes : List ℕ) (t : Bool) → AllByRecursion (λ b. b < 256) bytes → is_timed bytes ≡ t → length bytes ≤ most_bytes → ltb (length bytes) 2 ≡ false → is_compressed bytes ≡ false
+behind : (bytes : List ℕ) (t : Bool) → AllByRecursion (λ b. b < 256) bytes → is_timed bytes ≡ t → length bytes ≤ most_datagram → ltb (length bytes) 2 ≡ false
+    → is_compressed bytes ≡ false
     → ltb (length bytes) (cond t 4 2) ≡ false → eqb (length bytes) (cond t 4 2) ≡ false → ((d : Datagram) → Spells bytes d → ⊥)
     → ((place : ℕ) → StopsAt t (header_length bytes) (drop (cond t 4 2) bytes) place → ⊥) → ⊥
 behind [] t low timed short two plain time some no_value no_stop = absurd (false≢true (sym two))
@@ -110,11 +117,12 @@ behind (a ∷ b ∷ c ∷ rest) false low timed short two plain time some no_val
 behind (a ∷ b ∷ c ∷ []) true low timed short two plain time some no_value no_stop = absurd (false≢true (sym time))
 behind (a ∷ b ∷ c ∷ d ∷ []) true low timed short two plain time some no_value no_stop = absurd (false≢true (sym some))
 behind (a ∷ b ∷ c ∷ d ∷ e ∷ rest) true low timed short two plain time some no_value no_stop =
-    with_time a b c d (e ∷ rest) (a ∷ b ∷ c ∷ d ∷ e ∷ rest) low.0 low.1.0 low.1.1.0 low.1.1.1.0 refl (grind (arith, nat_tests)) (grind (arith, nat_tests)) short (λ h. absurd cc) no_value no_stop
+    with_time a b c d (e ∷ rest) (a ∷ b ∷ c ∷ d ∷ e ∷ rest) low.0 low.1.0 low.1.1.0 low.1.1.1.0 refl (grind (arith, nat_tests)) (grind (arith, nat_tests)) short
+    (λ h. absurd cc) no_value no_stop
 
 pub neither : NotNeither
 neither bytes low no_value no_fault =
-    let one = passed (ltb most_bytes (length bytes)) most_bytes _ no_fault in
+    let one = passed (ltb most_datagram (length bytes)) most_datagram _ no_fault in
     let two = passed (ltb (length bytes) 2 || is_compressed bytes) 0 _ one.1 in
     let three = passed (ltb (length bytes) (header_length bytes)) 2 _ two.1 in
     let four = passed (eqb (length bytes) (header_length bytes)) (length bytes) _ three.1 in

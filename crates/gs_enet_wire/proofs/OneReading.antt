@@ -5,7 +5,7 @@ use Rattle.gs_enet_wire.specs.declared.datagram.Datagram.{Datagram}
 use Rattle.gs_enet_wire.specs.declared.error.WireError.{WireError}
 use Rattle.gs_enet_wire.specs.declared.error.WireError.TheVariants.{BadDatagram, OutOfMemory}
 use Rattle.gs_enet_wire.specs.declared.reading.Header.{Header}
-use Rattle.gs_enet_wire.specs.Grammar.{most_bytes, header_length, Spells, StopsAt, IsFault, IsFaultAt}
+use Rattle.gs_enet_wire.specs.Grammar.{most_datagram, header_length, Spells, StopsAt, IsFault, IsFaultAt}
 use Rattle.gs_enet_wire.specs.ReadingHeader.{TakesHeader, StopsWith, with_header}
 use Rattle.gs_enet_wire.proofs.Datagrams.{headed, not_both, one_value, one_place}
 use Rattle.gs_enet_wire.proofs.Faults.{fault_stops}
@@ -23,7 +23,7 @@ fault_only bytes (Err (BadDatagram other)) found fault place f = inl (ap (λ (n 
 fault_only bytes (Err OutOfMemory) found fault place f = inr refl
 
 -- why the commands were refused is why the bytes are
-pub stopped : (bytes body : List ℕ) (h : Header) (t : Bool) (start : ℕ) (e : WireError) → length bytes ≤ most_bytes → TakesHeader h bytes body → 0 < length body
+pub stopped : (bytes body : List ℕ) (h : Header) (t : Bool) (start : ℕ) (e : WireError) → length bytes ≤ most_datagram → TakesHeader h bytes body → 0 < length body
     → t ≡ is_some h.sent → start ≡ length bytes - length body → StopsWith t start body e → IsFault bytes e
 stopped bytes body h t start (BadDatagram place) short taken some timed begins stops =
     let known = headed bytes body (with_header h []) taken.has_header taken.parts in

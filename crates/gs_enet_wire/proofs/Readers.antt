@@ -12,7 +12,8 @@ takes_field f front old new parts spelled small =
     record { parts = parts ∙ ap (λ (l : List ℕ). l ++ new) (sym spelled ∙ sym (append-nil (field_bytes f))); fit = (small, tt) }
 
 -- a command whose head and body were taken
-pub takes_command : {t : Bool} {k : ℕ} {h : Head} {c : Command} {old mid new : List ℕ} → TakesHead k h old mid → TakesBody k h c mid new → (h.asks ≡ true → t ≡ true) → TakesCommand t c old new
+pub takes_command : {t : Bool} {k : ℕ} {h : Head} {c : Command} {old mid new : List ℕ} → TakesHead k h old mid → TakesBody k h c mid new
+    → (h.asks ≡ true → t ≡ true) → TakesCommand t c old new
 takes_command {t = t} {c = c} {old = old} {mid = mid} p q answerable =
     let start : TakesHead (kind c) (head c) old mid = rw (q.is_kind, q.is_head) p in
     let first : IsFirst start.first c = record { small = start.small; low = start.low; high = start.high } in

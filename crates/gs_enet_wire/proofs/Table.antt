@@ -45,8 +45,28 @@ data_length k vs =
 abbrev pub built : ℕ → Head → List ℕ → List ℕ → Command
 built k h vs text =
     if k == 1 then command.Acknowledge h.channel h.number h.asks (get_or vs 0 0) (get_or vs 1 0)
-    else (if k == 2 then command.Connect (record { channel = h.channel; number = h.number; asks = h.asks; peer = get_or vs 0 0; incoming = get_or vs 1 0; outgoing = get_or vs 2 0; mtu = get_or vs 3 0; window = get_or vs 4 0; channels = get_or vs 5 0; incoming_bandwidth = get_or vs 6 0; outgoing_bandwidth = get_or vs 7 0; throttle_interval = get_or vs 8 0; acceleration = get_or vs 9 0; deceleration = get_or vs 10 0; connect_id = get_or vs 11 0; extra = get_or vs 12 0 })
-    else (if k == 3 then command.VerifyConnect h.channel h.number h.asks (get_or vs 0 0) (get_or vs 1 0) (get_or vs 2 0) (get_or vs 3 0) (get_or vs 4 0) (get_or vs 5 0) (get_or vs 6 0) (get_or vs 7 0) (get_or vs 8 0) (get_or vs 9 0) (get_or vs 10 0) (get_or vs 11 0)
+    else (if k == 2 then command.Connect (record {
+      channel = h.channel;
+      number = h.number;
+      asks = h.asks;
+      peer = get_or vs 0 0;
+      incoming = get_or vs 1 0;
+      outgoing = get_or vs 2 0;
+      mtu = get_or vs 3 0;
+      window = get_or vs 4 0;
+      channels = get_or vs 5 0;
+      incoming_bandwidth =
+          get_or vs 6 0;
+      outgoing_bandwidth = get_or vs 7 0;
+      throttle_interval = get_or vs 8 0;
+      acceleration = get_or vs 9 0;
+      deceleration =
+          get_or vs 10 0;
+      connect_id = get_or vs 11 0;
+      extra = get_or vs 12 0;
+    })
+    else (if k == 3 then command.VerifyConnect h.channel h.number h.asks (get_or vs 0 0) (get_or vs 1 0) (get_or vs 2 0) (get_or vs 3 0) (get_or vs 4 0)
+    (get_or vs 5 0) (get_or vs 6 0) (get_or vs 7 0) (get_or vs 8 0) (get_or vs 9 0) (get_or vs 10 0) (get_or vs 11 0)
     else (if k == 4 then command.Disconnect h.channel h.number h.asks (get_or vs 0 0)
     else (if k == 5 then command.Ping h.channel h.number h.asks
     else (if k == 6 then command.Reliable h.channel h.number h.asks text
@@ -55,7 +75,8 @@ built k h vs text =
     else (if k == 9 then command.Unsequenced h.channel h.number h.asks (get_or vs 0 0) text
     else (if k == 10 then command.Bandwidth h.channel h.number h.asks (get_or vs 0 0) (get_or vs 1 0)
     else (if k == 11 then command.Throttle h.channel h.number h.asks (get_or vs 0 0) (get_or vs 1 0) (get_or vs 2 0)
-    else (if k == 12 then command.UnreliableFragment h.channel h.number h.asks (get_or vs 0 0) (get_or vs 2 0) (get_or vs 3 0) (get_or vs 4 0) (get_or vs 5 0) text
+    else (if k == 12 then command.UnreliableFragment h.channel h.number h.asks (get_or vs 0 0) (get_or vs 2 0) (get_or vs 3 0) (get_or vs 4 0)
+    (get_or vs 5 0) text
     else command.Ping h.channel h.number h.asks)))))))))))
 
 pub widths-fields : (c : Command) → widths (fields c) ≡ widths_of (kind c)

@@ -87,7 +87,8 @@ spelling_is c fit = record {
 -- a command's parts, one behind the other
 pub puts_command : (c : Command) (first channel number : ℕ) (text : List ℕ) {p q r s t u : ℕ} {a b d e f g : List ℕ}
     → first ≡ kind c + 128 * asking (head c).asks → channel ≡ (head c).channel → number ≡ (head c).number → text ≡ payload c
-    → PutsFields (u8 first ∷ []) p q a b → PutsFields (u8 channel ∷ []) q r b d → PutsFields (u16 number ∷ []) r s d e → PutsFields (fields c) s t e f → Puts text t u f g
+    → PutsFields (u8 first ∷ []) p q a b → PutsFields (u8 channel ∷ []) q r b d → PutsFields (u16 number ∷ []) r s d e → PutsFields (fields c) s t e f
+    → Puts text t u f g
     → Puts (command_spelling c) p u a g
 puts_command c first channel number text {p} {q} {r} {s} {t} {u} {a} {b} {d} {e} {f} {g} is is2 is3 is4 h1 h2 h3 h4 h5 =
     let begun : PutsFields (u8 channel ∷ u16 number ∷ fields c) q t b f = fields_then h2 (fields_then h3 h4) in
@@ -104,7 +105,8 @@ abbrev pub spellings : List Command → List ℕ
 spellings cs = flat_map command_spelling cs
 
 -- there is room for each command where there is room for all
-pub room_at : (cs : List Command) (i : ℕ) (c : Command) → i < length cs → c ≡ get_or cs i c → length (spellings (take i cs)) + length (command_spelling c) ≤ length (spellings cs)
+pub room_at : (cs : List Command) (i : ℕ) (c : Command) → i < length cs → c ≡ get_or cs i c
+    → length (spellings (take i cs)) + length (command_spelling c) ≤ length (spellings cs)
 room_at [] i c lt is = absurd (omega arith)
 room_at (d ∷ cs) zero c lt is =
     let len = length-append (command_spelling d) (spellings cs) in
@@ -118,7 +120,8 @@ pub payload_short : (c : Command) → length (payload c) ≤ length (command_spe
 payload_short c = let len = length-append (fields_bytes (all_fields c)) (payload c) in omega arith
 
 -- one more command
-pub spellings_more : (cs : List Command) (i : ℕ) (c : Command) → i < length cs → c ≡ get_or cs i c → spellings (take (i + 1) cs) ≡ spellings (take i cs) ++ command_spelling c
+pub spellings_more : (cs : List Command) (i : ℕ) (c : Command) → i < length cs → c ≡ get_or cs i c
+    → spellings (take (i + 1) cs) ≡ spellings (take i cs) ++ command_spelling c
 spellings_more cs i c lt is =
     ap spellings (take_more cs i c lt ∙ ap (λ (x : Command). take i cs ++ x ∷ []) (sym is)) ∙ flat_map-append command_spelling (take i cs) (c ∷ [])
     ∙ ap (λ (l : List ℕ). spellings (take i cs) ++ l) (append-nil (command_spelling c))

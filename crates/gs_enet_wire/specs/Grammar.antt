@@ -1,10 +1,13 @@
 -- The grammar of ENet 1.3: which bytes spell which datagram. A list of bytes is a list of numbers below 256.
 use Rattle.std.specs.Prelude.{◌≡◌, ◌≢◌, ℕ, ◌+◌, ◌*◌, ◌/◌, ◌%◌, ◌^◌, ◌<◌, ◌≤◌, Bool, true, false, ◌||◌, if◌then◌else◌, MatchBool, nat_lt, nat_le, ◌==◌, List, [], ◌∷◌, ◌++◌, length, drop, Option, Some, None, is_some, IsSome}
 use Rattle.std.specs.List.{flat_map, AllByRecursion}
-use Rattle.gs_bytes.specs.Field.{be_bytes, be_value}
+use Rattle.gs_bytes.specs.Field.{big_bytes, big_from}
+use Rattle.gs_enet_wire.specs.declared.limits.TheConstants.{MOST_DATAGRAM}
 use Rattle.gs_enet_wire.specs.declared.command.Command.{Command}
 use Rattle.gs_enet_wire.specs.declared.command.Command.TheVariants as command
+use Rattle.gs_enet_wire.specs.declared.command.Connect.{Connect}
 use Rattle.gs_enet_wire.specs.declared.command.Head.{Head}
+use Rattle.gs_enet_wire.specs.declared.read_body.Piece.{Piece}
 use Rattle.gs_enet_wire.specs.declared.datagram.Datagram.{Datagram}
 use Rattle.gs_enet_wire.specs.declared.error.WireError.{WireError}
 use Rattle.gs_enet_wire.specs.declared.error.WireError.TheVariants.{BadDatagram, OutOfMemory}
@@ -26,7 +29,7 @@ u32 n = (4, n)
 
 -- a field's bytes, the highest first
 abbrev pub field_bytes : Field → List ℕ
-field_bytes f = be_bytes f.0 f.1
+field_bytes f = big_bytes f.0 f.1
 
 -- the bytes of fields that stand one after the other
 abbrev pub fields_bytes : List Field → List ℕ
@@ -45,7 +48,8 @@ head_of channel number asks = record { channel = channel; number = number; asks 
 abbrev pub head : Command → Head
 head (command.Acknowledge channel number asks received received_sent) = head_of channel number asks
 head (command.Connect c) = head_of c.channel c.number c.asks
-head (command.VerifyConnect channel number asks peer incoming outgoing mtu window channels incoming_bandwidth outgoing_bandwidth throttle_interval acceleration deceleration connect_id) = head_of channel number asks
+head (command.VerifyConnect channel number asks peer incoming outgoing mtu window channels incoming_bandwidth
+    outgoing_bandwidth throttle_interval acceleration deceleration connect_id) = head_of channel number asks
 head (command.Disconnect channel number asks extra) = head_of channel number asks
 head (command.Ping channel number asks) = head_of channel number asks
 head (command.Reliable channel number asks bytes) = head_of channel number asks
@@ -54,13 +58,15 @@ head (command.Fragment channel number asks start count fragment total offset byt
 head (command.Unsequenced channel number asks group bytes) = head_of channel number asks
 head (command.Bandwidth channel number asks incoming outgoing) = head_of channel number asks
 head (command.Throttle channel number asks interval acceleration deceleration) = head_of channel number asks
-head (command.UnreliableFragment channel number asks start count fragment total offset bytes) = head_of channel number asks
+head (command.UnreliableFragment channel number asks start count fragment total offset bytes) =
+    head_of channel number asks
 
 -- which command it is
 abbrev pub kind : Command → ℕ
 kind (command.Acknowledge channel number asks received received_sent) = 1
 kind (command.Connect c) = 2
-kind (command.VerifyConnect channel number asks peer incoming outgoing mtu window channels incoming_bandwidth outgoing_bandwidth throttle_interval acceleration deceleration connect_id) = 3
+kind (command.VerifyConnect channel number asks peer incoming outgoing mtu window channels incoming_bandwidth
+    outgoing_bandwidth throttle_interval acceleration deceleration connect_id) = 3
 kind (command.Disconnect channel number asks extra) = 4
 kind (command.Ping channel number asks) = 5
 kind (command.Reliable channel number asks bytes) = 6
@@ -71,26 +77,67 @@ kind (command.Bandwidth channel number asks incoming outgoing) = 10
 kind (command.Throttle channel number asks interval acceleration deceleration) = 11
 kind (command.UnreliableFragment channel number asks start count fragment total offset bytes) = 12
 
+-- the fields that a connect and its answer have in common
+abbrev pub shared_fields : Connect → List Field
+shared_fields c =
+    u16 c.peer ∷ u8 c.incoming ∷ u8 c.outgoing ∷ u32 c.mtu ∷ u32 c.window ∷ u32 c.channels
+    ∷ u32 c.incoming_bandwidth ∷ u32 c.outgoing_bandwidth
+    ∷ u32 c.throttle_interval ∷ u32 c.acceleration ∷ u32 c.deceleration ∷ u32 c.connect_id ∷ []
+
+-- the fields of a fragment, be its message reliable or not
+abbrev pub piece_fields : Piece → List Field
+piece_fields p = u16 p.start ∷ u16 p.length ∷ u32 p.count ∷ u32 p.fragment ∷ u32 p.total ∷ u32 p.offset ∷ []
+
 -- the fields behind the head; where a command has data, one of them is its length
 abbrev pub fields : Command → List Field
 fields (command.Acknowledge channel number asks received received_sent) = u16 received ∷ u16 received_sent ∷ []
-fields (command.Connect c) =
-    u16 c.peer ∷ u8 c.incoming ∷ u8 c.outgoing ∷ u32 c.mtu ∷ u32 c.window ∷ u32 c.channels ∷ u32 c.incoming_bandwidth ∷ u32 c.outgoing_bandwidth
-    ∷ u32 c.throttle_interval ∷ u32 c.acceleration ∷ u32 c.deceleration ∷ u32 c.connect_id ∷ u32 c.extra ∷ []
-fields (command.VerifyConnect channel number asks peer incoming outgoing mtu window channels incoming_bandwidth outgoing_bandwidth throttle_interval acceleration deceleration connect_id) =
-    u16 peer ∷ u8 incoming ∷ u8 outgoing ∷ u32 mtu ∷ u32 window ∷ u32 channels ∷ u32 incoming_bandwidth ∷ u32 outgoing_bandwidth
-    ∷ u32 throttle_interval ∷ u32 acceleration ∷ u32 deceleration ∷ u32 connect_id ∷ []
+fields (command.Connect c) = shared_fields c ++ u32 c.extra ∷ []
+fields (command.VerifyConnect channel number asks peer incoming outgoing mtu window channels incoming_bandwidth
+    outgoing_bandwidth throttle_interval acceleration deceleration connect_id) =
+    shared_fields (record {
+      channel = channel;
+      number = number;
+      asks = asks;
+      peer = peer;
+      incoming = incoming;
+      outgoing = outgoing;
+      mtu = mtu;
+      window = window;
+      channels = channels;
+      incoming_bandwidth = incoming_bandwidth;
+      outgoing_bandwidth = outgoing_bandwidth;
+      throttle_interval = throttle_interval;
+      acceleration = acceleration;
+      deceleration = deceleration;
+      connect_id = connect_id;
+      extra = 0;
+    })
 fields (command.Disconnect channel number asks extra) = u32 extra ∷ []
 fields (command.Ping channel number asks) = []
 fields (command.Reliable channel number asks bytes) = u16 (length bytes) ∷ []
 fields (command.Unreliable channel number asks unreliable bytes) = u16 unreliable ∷ u16 (length bytes) ∷ []
 fields (command.Fragment channel number asks start count fragment total offset bytes) =
-    u16 start ∷ u16 (length bytes) ∷ u32 count ∷ u32 fragment ∷ u32 total ∷ u32 offset ∷ []
+    piece_fields (record {
+      start = start;
+      length = length bytes;
+      count = count;
+      fragment = fragment;
+      total = total;
+      offset = offset;
+    })
 fields (command.Unsequenced channel number asks group bytes) = u16 group ∷ u16 (length bytes) ∷ []
 fields (command.Bandwidth channel number asks incoming outgoing) = u32 incoming ∷ u32 outgoing ∷ []
-fields (command.Throttle channel number asks interval acceleration deceleration) = u32 interval ∷ u32 acceleration ∷ u32 deceleration ∷ []
+fields (command.Throttle channel number asks interval acceleration deceleration) =
+    u32 interval ∷ u32 acceleration ∷ u32 deceleration ∷ []
 fields (command.UnreliableFragment channel number asks start count fragment total offset bytes) =
-    u16 start ∷ u16 (length bytes) ∷ u32 count ∷ u32 fragment ∷ u32 total ∷ u32 offset ∷ []
+    piece_fields (record {
+      start = start;
+      length = length bytes;
+      count = count;
+      fragment = fragment;
+      total = total;
+      offset = offset;
+    })
 
 -- the data at the end
 abbrev pub payload : Command → List ℕ
@@ -136,16 +183,16 @@ AreCommands timed bytes [] = bytes ≡ []
 AreCommands timed bytes (c ∷ cs) =
     (front rest : List ℕ) × (bytes ≡ front ++ rest) × IsCommand timed front c × AreCommands timed rest cs
 
--- The bytes don't begin with a command: its number is outside 1 to 12, or it is cut, or it asks for an acknowledgement where
--- the datagram has no sent time.
+-- The bytes don't begin with a command: its number is outside 1 to 12, or it is cut, or it asks for an acknowledgement
+-- where the datagram has no sent time.
 abbrev pub BeginsNoCommand : Bool → List ℕ → Type 0
 BeginsNoCommand timed bytes =
     (c : Command) (front rest : List ℕ) → bytes ≡ front ++ rest → IsCommand timed front c → ⊥
 
 -- ---- datagrams
 
--- The first two bytes: the peer id in the low 12 bits, the session in bits 12 and 13, compressed in bit 14, and in bit 15
--- whether a sent time follows.
+-- The first two bytes: the peer id in the low 12 bits, the session in bits 12 and 13, compressed in bit 14, and in bit
+-- 15 whether a sent time follows.
 abbrev pub header_word : Datagram → ℕ
 header_word d = d.peer + 4096 * d.session + 32768 * asking (is_some d.sent)
 
@@ -163,14 +210,14 @@ pub record HasHeader (d : Datagram) : Type 0 where
   pub sent : Fit (sent_field d.sent)
 
 -- the most bytes of a datagram, the protocol's greatest MTU
-abbrev pub most_bytes : ℕ
-most_bytes = 4096
+abbrev pub most_datagram : ℕ
+most_datagram = MOST_DATAGRAM
 
 -- the bytes spell that datagram
 pub record Spells (bytes : List ℕ) (d : Datagram) : Type 0 where
   pub has_header : HasHeader d
   pub some : d.commands ≢ []
-  pub short : length bytes ≤ most_bytes
+  pub short : length bytes ≤ most_datagram
   pub body : List ℕ
   pub spelled : bytes ≡ fields_bytes (header d) ++ body
   pub commands : AreCommands (is_some d.sent) body d.commands
@@ -179,10 +226,10 @@ pub record Spells (bytes : List ℕ) (d : Datagram) : Type 0 where
 
 -- what the first two bytes say
 abbrev pub is_compressed : List ℕ → Bool
-is_compressed bytes = be_value 2 0 bytes / 16384 % 2 == 1
+is_compressed bytes = big_from 0 2 bytes / 16384 % 2 == 1
 
 abbrev pub is_timed : List ℕ → Bool
-is_timed bytes = nat_le 32768 (be_value 2 0 bytes)
+is_timed bytes = nat_le 32768 (big_from 0 2 bytes)
 
 abbrev pub header_length : List ℕ → ℕ
 header_length bytes = if is_timed bytes then 4 else 2
@@ -199,11 +246,11 @@ pub record StopsAt (timed : Bool) (start : ℕ) (bytes : List ℕ) (place : ℕ)
   pub none : BeginsNoCommand timed rest
   pub at : place ≡ start + length front
 
--- The place of a datagram's fault, by the first of these causes that holds: too many bytes; no whole header, or a compressed
--- one; no whole sent time; no command; a command at fault.
+-- The place of a datagram's fault, by the first of these causes that holds: too many bytes; no whole header, or a
+-- compressed one; no whole sent time; no command; a command at fault.
 abbrev pub IsFaultAt : List ℕ → ℕ → Type 0
 IsFaultAt bytes place =
-    MatchBool (nat_lt most_bytes (length bytes)) (place ≡ most_bytes)
+    MatchBool (nat_lt most_datagram (length bytes)) (place ≡ most_datagram)
     (MatchBool (nat_lt (length bytes) 2 || is_compressed bytes) (place ≡ 0)
     (MatchBool (nat_lt (length bytes) (header_length bytes)) (place ≡ 2)
     (MatchBool (length bytes == header_length bytes) (place ≡ length bytes)
@@ -228,5 +275,5 @@ pub record IsWritable (d : Datagram) : Type 0 where
   pub timed : IsSome d.sent
   pub sent : Fit (sent_field d.sent)
   pub some : d.commands ≢ []
-  pub short : length (spelling d) ≤ most_bytes
+  pub short : length (spelling d) ≤ most_datagram
   pub fit : AllByRecursion (λ c. Fit (all_fields c)) d.commands

@@ -18,7 +18,8 @@ NotBoth = (bytes : List ℕ) (d : Datagram) (place : ℕ) → Spells bytes d →
 
 -- any bytes spell a datagram or have a fault
 abbrev pub NotNeither : Type 0
-NotNeither = (bytes : List ℕ) → AllByRecursion (λ b. b < 2 ^ 8) bytes → ((d : Datagram) → Spells bytes d → ⊥) → ((place : ℕ) → IsFaultAt bytes place → ⊥) → ⊥
+NotNeither = (bytes : List ℕ) → AllByRecursion (λ b. b < 2 ^ 8) bytes → ((d : Datagram) → Spells bytes d → ⊥)
+    → ((place : ℕ) → IsFaultAt bytes place → ⊥) → ⊥
 
 -- the spelling of what can be written spells it
 abbrev pub ReadAgain : Type 0

@@ -1,20 +1,13 @@
 -- Cited by private contracts alone: what a reader takes from the front of the bytes.
 use Rattle.std.specs.Prelude.{◌≡◌, ℕ, ◌/◌, ◌%◌, ◌<◌, List, [], ◌∷◌, ◌++◌, Bool}
 use Rattle.gs_enet_wire.specs.declared.command.Command.{Command}
-use Rattle.gs_enet_wire.specs.declared.command.Connect.{Connect}
 use Rattle.gs_enet_wire.specs.declared.command.Head.{Head}
-use Rattle.gs_enet_wire.specs.Grammar.{Field, u8, u16, u32, fields_bytes, Fit, head, kind, fields, payload, asking, IsCommand}
+use Rattle.gs_enet_wire.specs.Grammar.{Field, u8, u16, fields_bytes, Fit, head, kind, fields, payload, asking, IsCommand}
 
 -- the old bytes are those fields and then the new bytes
 pub record Takes (fs : List Field) (old new : List ℕ) : Type 0 where
   pub parts : old ≡ fields_bytes fs ++ new
   pub fit : Fit fs
-
--- what a connect and its answer have in common
-abbrev pub shared_fields : Connect → List Field
-shared_fields c =
-    u16 c.peer ∷ u8 c.incoming ∷ u8 c.outgoing ∷ u32 c.mtu ∷ u32 c.window ∷ u32 c.channels ∷ u32 c.incoming_bandwidth ∷ u32 c.outgoing_bandwidth
-    ∷ u32 c.throttle_interval ∷ u32 c.acceleration ∷ u32 c.deceleration ∷ u32 c.connect_id ∷ []
 
 -- the old bytes are the head of a command of that kind, and then the new bytes
 pub record TakesHead (k : ℕ) (h : Head) (old new : List ℕ) : Type 0 where

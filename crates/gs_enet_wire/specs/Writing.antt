@@ -1,4 +1,4 @@
--- Cited by private contracts alone: what a writer changes.
+-- What a writer changes.
 use Rattle.std.specs.Prelude.{◌≡◌, ℕ, ◌+◌, List, ◌++◌, length, take, drop}
 use Rattle.gs_enet_wire.specs.Grammar.{Field, fields_bytes, Fit}
 

@@ -200,6 +200,24 @@ pub enum Command {
     },
 }
 
+/// The head of a command: each variant but `Connect` has its fields beside its own.
+macro_rules! head_of {
+    ($command:expr, $($variant:ident)|+) => {
+        match $command {
+            Command::Connect(c) => Head {
+                channel: c.channel,
+                number: c.number,
+                asks: c.asks,
+            },
+            $(Command::$variant { channel, number, asks, .. })|+ => Head {
+                channel: *channel,
+                number: *number,
+                asks: *asks,
+            },
+        }
+    };
+}
+
 impl Command {
     /// The number by which the protocol names the kind of command.
     pub(crate) fn kind(&self) -> u8
@@ -221,64 +239,45 @@ impl Command {
         }
     }
 
+    /// What each command begins with.
+    pub(crate) fn head(&self) -> Head
+        ensures { result ≡ head self.now }
+    {
+        head_of!(
+            self,
+            Acknowledge
+                | VerifyConnect
+                | Disconnect
+                | Ping
+                | Reliable
+                | Unreliable
+                | Fragment
+                | Unsequenced
+                | Bandwidth
+                | Throttle
+                | UnreliableFragment
+        )
+    }
+
     /// The channel (`channelID`).
     pub fn channel(&self) -> u8
         ensures { result ≡ (head self.now).channel }
     {
-        match self {
-            Command::Connect(c) => c.channel,
-            Command::Acknowledge { channel, .. }
-            | Command::VerifyConnect { channel, .. }
-            | Command::Disconnect { channel, .. }
-            | Command::Ping { channel, .. }
-            | Command::Reliable { channel, .. }
-            | Command::Unreliable { channel, .. }
-            | Command::Fragment { channel, .. }
-            | Command::Unsequenced { channel, .. }
-            | Command::Bandwidth { channel, .. }
-            | Command::Throttle { channel, .. }
-            | Command::UnreliableFragment { channel, .. } => *channel,
-        }
+        self.head().channel
     }
 
     /// The reliable sequence number (`reliableSequenceNumber`).
     pub fn number(&self) -> u16
         ensures { result ≡ (head self.now).number }
     {
-        match self {
-            Command::Connect(c) => c.number,
-            Command::Acknowledge { number, .. }
-            | Command::VerifyConnect { number, .. }
-            | Command::Disconnect { number, .. }
-            | Command::Ping { number, .. }
-            | Command::Reliable { number, .. }
-            | Command::Unreliable { number, .. }
-            | Command::Fragment { number, .. }
-            | Command::Unsequenced { number, .. }
-            | Command::Bandwidth { number, .. }
-            | Command::Throttle { number, .. }
-            | Command::UnreliableFragment { number, .. } => *number,
-        }
+        self.head().number
     }
 
     /// Whether the command asks for an acknowledgement.
     pub fn asks(&self) -> bool
         ensures { result ≡ (head self.now).asks }
     {
-        match self {
-            Command::Connect(c) => c.asks,
-            Command::Acknowledge { asks, .. }
-            | Command::VerifyConnect { asks, .. }
-            | Command::Disconnect { asks, .. }
-            | Command::Ping { asks, .. }
-            | Command::Reliable { asks, .. }
-            | Command::Unreliable { asks, .. }
-            | Command::Fragment { asks, .. }
-            | Command::Unsequenced { asks, .. }
-            | Command::Bandwidth { asks, .. }
-            | Command::Throttle { asks, .. }
-            | Command::UnreliableFragment { asks, .. } => *asks,
-        }
+        self.head().asks
     }
 
     /// The data at the command's end, empty where its kind carries none.

@@ -4,6 +4,7 @@
 //! are in network byte order. The grammar is a definition on bytes and values (`specs/Grammar.antt`),
 //! with the protocol's field names. `read` answers the one datagram that the bytes spell, or the
 //! place of the first fault; `write` writes the datagram's spelling with each ignored bit at 0.
+//! `write_header`, `write_command` and `write_reliable` write that spelling part by part.
 #![tactic(auto)]
 
 mod command;
@@ -11,6 +12,8 @@ mod cursor;
 mod datagram;
 mod error;
 mod laws;
+mod limits;
+mod part;
 mod read_body;
 mod reading;
 mod write_fields;
@@ -20,6 +23,8 @@ pub use command::{Command, Connect};
 pub use datagram::{Commands, Datagram};
 pub use error::WireError;
 pub use laws::{one_reading, one_spelling, written_is_read};
+pub use limits::MOST_DATAGRAM;
+pub use part::{write_command, write_header, write_reliable};
 pub use reading::read;
 pub use writing::write;
 

@@ -1,9 +1,8 @@
 //! What stands behind a command's head, read by the kind of command.
 
 ghost use Rattle.std.specs.Prelude.{◌≡◌, ◌<◌, ◌++◌, [], ◌∷◌, length, IfOk, OnErr, IsErrOf};
-ghost use Rattle.gs_enet_wire.specs.Grammar.{u16, u32};
-ghost use Rattle.gs_enet_wire.specs.Reading.{Takes, TakesBody, BeginsNoBody, shared_fields};
-ghost use Rattle.gs_enet_wire.specs.Pieces.{piece_fields};
+ghost use Rattle.gs_enet_wire.specs.Grammar.{u16, u32, piece_fields, shared_fields};
+ghost use Rattle.gs_enet_wire.specs.Reading.{Takes, TakesBody, BeginsNoBody};
 
 use crate::command::Head;
 use crate::cursor::{Cursor, ReadError};

@@ -1,7 +1,7 @@
 //! A datagram, read from all of the bytes: its header, and command after command.
 
 ghost use Rattle.std.specs.Prelude.{◌≡◌, ◌+◌, ◌*◌, ◌/◌, ◌<◌, ◌≤◌, length, IfOk, IfErr, OnOk, OnErr, IsErrOf, ◌⊎◌, ℕ, Ok, Err};
-ghost use Rattle.gs_enet_wire.specs.Grammar.{IsFault, most_bytes, BeginsNoCommand, Spells, IsFaultAt, AreCommands, spelling};
+ghost use Rattle.gs_enet_wire.specs.Grammar.{IsFault, most_datagram, BeginsNoCommand, Spells, IsFaultAt, AreCommands, spelling};
 ghost use Rattle.gs_enet_wire.specs.ReadingHeader.{TakesTime, TakesHeader, StopsWith};
 ghost use Rattle.gs_enet_wire.specs.Reading.{TakesHead, TakesBody, BeginsNoBody, TakesCommand};
 ghost use Rattle.gs_enet_wire.specs.declared.datagram.Datagram.{Datagram};
@@ -11,6 +11,7 @@ use crate::command::{
     THROTTLE, UNRELIABLE, UNRELIABLE_FRAGMENT, UNSEQUENCED, VERIFY_CONNECT,
 };
 use crate::cursor::{Cursor, ReadError};
+use crate::limits::MOST_DATAGRAM;
 use crate::{Command, Commands, Datagram, WireError, read_body};
 use std::alloc::{AllocFailed, Global};
 
@@ -50,7 +51,7 @@ fn sent_time(word: u16, cursor: &mut Cursor<'_>) -> Result<Option<u16>, ReadErro
 
 pub fn read_header(cursor: &mut Cursor<'_>) -> Result<Header, WireError>
     ensures taken { IfOk result (λ h. TakesHeader h cursor.old cursor.new) }
-    ensures fault { length cursor.old ≤ most_bytes → IfErr result (IsFault cursor.old) }
+    ensures fault { length cursor.old ≤ most_datagram → IfErr result (IsFault cursor.old) }
 {
     let Ok(word) = cursor.u16() else {
         return Err(WireError::BadDatagram(0));
@@ -137,9 +138,6 @@ pub fn read_command(
     body(alloc, start.kind, start.head, cursor)
 }
 
-/// The most bytes of a datagram, the protocol's greatest MTU.
-pub const MOST_BYTES: usize = 4096;
-
 /// The commands that stand behind a header of `start` bytes, up to the end.
 fn read_commands(
     alloc: Global,
@@ -147,7 +145,7 @@ fn read_commands(
     start: usize,
     cursor: &mut Cursor<'_>,
 ) -> Result<Commands, WireError>
-    requires { start + length cursor.old ≤ most_bytes }
+    requires { start + length cursor.old ≤ most_datagram }
     ensures read { IfOk result (λ commands. AreCommands timed cursor.old commands) }
     ensures fault { IfErr result (StopsWith timed start cursor.old) }
 {
@@ -193,8 +191,8 @@ fn whole(alloc: Global, bytes: &[u8]) -> Result<Datagram, WireError>
     ensures found { IfOk result (λ datagram. Spells bytes.now datagram) }
     ensures fault { IfErr result (IsFault bytes.now) }
 {
-    if bytes.len() > MOST_BYTES {
-        return Err(WireError::BadDatagram(MOST_BYTES));
+    if bytes.len() > MOST_DATAGRAM {
+        return Err(WireError::BadDatagram(MOST_DATAGRAM));
     }
     let mut cursor = Cursor::new(bytes);
     let header = read_header(&mut cursor)?;

@@ -1,10 +1,8 @@
 //! Fields, written one after the other, and those behind a command's head by the kind of command.
 
 ghost use Rattle.std.specs.Prelude.{◌+◌, ◌≤◌, [], ◌∷◌, length, ◌≡◌, ◌⊎◌, ◌<◌};
-ghost use Rattle.gs_enet_wire.specs.Grammar.{u8, u16, u32, kind, fields, fields_bytes, payload};
+ghost use Rattle.gs_enet_wire.specs.Grammar.{u8, u16, u32, kind, fields, fields_bytes, payload, piece_fields, shared_fields};
 ghost use Rattle.gs_enet_wire.specs.Writing.{Puts, PutsFields};
-ghost use Rattle.gs_enet_wire.specs.Reading.{shared_fields};
-ghost use Rattle.gs_enet_wire.specs.Pieces.{piece_fields};
 
 use crate::read_body::Piece;
 use crate::{Command, Connect};

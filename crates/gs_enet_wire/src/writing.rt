@@ -10,6 +10,7 @@ ghost use Rattle.gs_enet_wire.specs.Grammar.{
   payload,
   Fit,
   header,
+  most_datagram,
   command_spelling,
   spelling,
   AreCommands,
@@ -18,7 +19,7 @@ ghost use Rattle.gs_enet_wire.specs.Grammar.{
 ghost use Rattle.gs_enet_wire.specs.Writing.{Puts, PutsFields};
 
 use crate::command::ASKS;
-use crate::reading::{MOST_BYTES, SENT_TIME};
+use crate::reading::SENT_TIME;
 use crate::write_fields::{put_bytes, put_fields, put_u8, put_u16};
 use crate::{Command, Datagram};
 
@@ -32,7 +33,7 @@ fn first_byte(command: &Command) -> u8
     }
 }
 
-fn put_command(out: &mut [u8], place: usize, command: &Command) -> usize
+pub fn put_command(out: &mut [u8], place: usize, command: &Command) -> usize
     requires short { length (payload command.now) < 65536 }
     requires room { place + length (command_spelling command.now) ≤ length out.old }
     ensures put { Puts (command_spelling command.now) place result out.old out.new }
@@ -46,7 +47,7 @@ fn put_command(out: &mut [u8], place: usize, command: &Command) -> usize
 }
 
 fn put_commands(out: &mut [u8], place: usize, commands: &[Command]) -> usize
-    requires short { length (flat_map command_spelling commands.now) ≤ MOST_BYTES }
+    requires short { length (flat_map command_spelling commands.now) ≤ most_datagram }
     requires room { place + length (flat_map command_spelling commands.now) ≤ length out.old }
     ensures put { Puts (flat_map command_spelling commands.now) place result out.old out.new }
     ensures spelled { AreCommands true (flat_map command_spelling commands.now) commands.now }
@@ -79,7 +80,7 @@ pub fn write(datagram: &Datagram, out: &mut [u8]) -> usize
     requires session { datagram.now.session ≡ 0 }
     requires timed { IsSome datagram.now.sent }
     requires some { datagram.now.commands ≢ [] }
-    requires short { length (spelling datagram.now) ≤ MOST_BYTES }
+    requires short { length (spelling datagram.now) ≤ most_datagram }
     requires room { length (spelling datagram.now) ≤ length out.old }
     ensures count { result ≡ length (spelling datagram.now) }
     ensures written { out.new ≡ spelling datagram.now ++ drop result out.old }

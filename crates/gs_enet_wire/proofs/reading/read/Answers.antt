@@ -13,4 +13,5 @@ returns-clause-fault_only c = fault_only c.args.bytes.now c.whole.result c.whole
 
 pub returns-clause-size : goal.returns-clause-size
 returns-clause-size c =
-    IfOk-weaker c.whole.result (λ d. Spells c.args.bytes.now d) (λ d. length (spelling d) ≡ length c.args.bytes.now) (λ d s. same_length c.args.bytes.now d s) c.whole.ensures.found
+    IfOk-weaker c.whole.result (λ d. Spells c.args.bytes.now d) (λ d. length (spelling d) ≡ length c.args.bytes.now)
+    (λ d s. same_length c.args.bytes.now d s) c.whole.ensures.found

@@ -8,5 +8,6 @@ pub returns-clause-taken : goal.returns-clause-taken
 returns-clause-taken c =
     let s = c.in_ok-start.start in
     let answerable : s.head.asks ≡ true → c.args.timed ≡ true = λ e. elim c.else-start.either [ inl both ↦ both.1 | inr apart ↦ absurd cc ] in
-    IfOk-weaker c.body.result (λ x. TakesBody s.kind s.head x c.start_of.new.cursor c.body.new.cursor) (λ x. TakesCommand c.args.timed x c.args.cursor.now c.body.new.cursor)
+    IfOk-weaker c.body.result (λ x. TakesBody s.kind s.head x c.start_of.new.cursor c.body.new.cursor)
+    (λ x. TakesCommand c.args.timed x c.args.cursor.now c.body.new.cursor)
     (λ x h. takes_command c.in_ok-start.ensures.taken h answerable) c.body.ensures.taken

@@ -10,4 +10,5 @@ returns-in_err-commands-clause-fault c =
     let h = c.in_ok-header.header in
     let body = c.read_header.new.cursor in
     let taken : TakesHeader h c.args.bytes.now body = rw (← c.new-cursor.ensures) c.in_ok-header.ensures.taken in
-    rw (p.1, p.2) (stopped c.args.bytes.now body h c.is_some.result _ c.in_err-commands.field-0.0 (omega arith) taken (omega arith) c.is_some.ensures (omega arith) c.in_err-commands.ensures.fault)
+    rw (p.1, p.2) (stopped c.args.bytes.now body h c.is_some.result _ c.in_err-commands.field-0.0 (omega arith) taken (omega arith) c.is_some.ensures
+    (omega arith) c.in_err-commands.ensures.fault)

@@ -27,5 +27,6 @@ loop-command-preserved c =
     take_more cs i item c.loop-command-test.true ∙ ap (λ (x : Command). take i cs ++ x ∷ []) (sym c.command-item.is) in
     record {
       so_far = rw more (puts_then c.loop-command.invariant.so_far c.put_command-end.ensures.put);
-      are = rw (more, front) (commands_push true (spellings (take i cs)) (command_spelling item) (take i cs) item c.loop-command.invariant.are (spelling_is item c.put_command-end.ensures.fit));
+      are = rw (more, front) (commands_push true (spellings (take i cs)) (command_spelling item) (take i cs) item c.loop-command.invariant.are
+          (spelling_is item c.put_command-end.ensures.fit));
     }
