@@ -9,7 +9,8 @@ use Rattle.gs_enet.specs.declared.event.PeerEvent.{PeerEvent}
 use Rattle.gs_enet.specs.declared.event.PeerEvent.TheVariants as event
 use Rattle.gs_enet.specs.declared.state.PeerState.{PeerState}
 use Rattle.gs_enet.specs.declared.state.PeerState.TheVariants as state
-use Rattle.gs_enet.specs.Record.{PeerRecord, Unacknowledged, Disconnect, Order, Answer, channels, control, last_number, given_on, heard, orders, is_shut, shut, happened, at_moment}
+use Rattle.gs_enet.specs.declared.answer.Answer.{Answer}
+use Rattle.gs_enet.specs.Record.{PeerRecord, Unacknowledged, Disconnect, Order, channels, control, last_number, given_on, heard, orders, is_shut, shut, happened, at_moment}
 use Rattle.gs_enet.specs.Receive.{leave_if}
 use Rattle.gs_enet.specs.Steps.{next_number, is_full, is_open, can_send, with_message, close_if, closed, telling, told_next, due_again, timed_if, timed, is_lost}
 use Rattle.gs_enet.specs.Write.{Item, Answers, Orders, item_command, due_if, is_due, going_out, fitting, next_items, datagram_room, header_room, written_once, first_written, wrote_next}
@@ -46,7 +47,8 @@ sent_both true c bytes s ws o wo e k =
     let room = or_parts (list_any (λ (u : Unacknowledged). (u.order.channel == c) && nat_le (u.order.number + 256) (next_number s c)) s.unacknowledged)
     (nat_le last_number (next_number s c)) (not-true (is_full s c) able.1) in (
       gives s.unacknowledged c bytes k.0 (open_is_not_over s.state able.0) (ltb-true c channels parts.0)
-          (room_from_tests c (next_number s c) s.unacknowledged (each_fails (λ (u : Unacknowledged). (u.order.channel == c) && nat_le (u.order.number + 256) (next_number s c)) s.unacknowledged room.0)),
+          (room_from_tests c (next_number s c) s.unacknowledged (each_fails
+          (λ (u : Unacknowledged). (u.order.channel == c) && nat_le (u.order.number + 256) (next_number s c)) s.unacknowledged room.0)),
       k.1,
     )
 
@@ -98,7 +100,8 @@ same_heard : (es fs : List PeerEvent) → es ≡ fs → (s : PeerRecord) (ws : L
     → Kept s.given (orders s) s.state es ws (heard o) o.pending o.state wo × Kept o.given (orders o) o.state (heard o) wo es s.pending s.state ws
     → Kept s.given (orders s) s.state fs ws (heard o) o.pending o.state wo × Kept o.given (orders o) o.state (heard o) wo fs s.pending s.state ws
 same_heard es fs e s ws o wo k =
-    subst (λ (x : List PeerEvent). Kept s.given (orders s) s.state x ws (heard o) o.pending o.state wo × Kept o.given (orders o) o.state (heard o) wo x s.pending s.state ws) e k
+    subst (λ (x : List PeerEvent). Kept s.given (orders s) s.state x ws (heard o) o.pending o.state wo
+    × Kept o.given (orders o) o.state (heard o) wo x s.pending s.state ws) e k
 
 tell_both : (es : List PeerEvent) (s : PeerRecord) (ws : List Written) (o : PeerRecord) (wo : List Written)
     → s.waiting ≡ es → Both s ws o wo → Both (telling es s) ws o wo
@@ -145,7 +148,11 @@ same_orders os s ws o wo e k = subst (λ (x : List Order). Kept s.given x s.stat
 time_both : (over : Bool) (lost : Option Unacknowledged) (s : PeerRecord) (ws : List Written) (o : PeerRecord) (wo : List Written)
     → Both s ws o wo → Both (timed_if over lost s) ws o wo
 time_both true lost s ws o wo k = k
-time_both false None s ws o wo k = (same_orders (map order_of (map (due_again s.now) s.unacknowledged)) s ws o wo (orders-due_again s.now s.unacknowledged) k.0, k.1)
+time_both false None s ws o wo k = (
+  same_orders (map order_of (map (due_again s.now) s.unacknowledged)) s ws o wo
+      (orders-due_again s.now s.unacknowledged) k.0,
+  k.1,
+)
 time_both false (Some u) s ws o wo k =
     shut_both (event.Lost u.order.channel u.order.number) s ws o wo k tt (λ same. absurd cc) (λ same. absurd cc)
 
@@ -227,7 +234,8 @@ write_both now s ws o wo k =
     each_going_out (AnswersTruly (heard s)) t k.1.owed (nothing s.unacknowledged) in
     let orders_true : Each (IsTrueOrder s.given (heard o) s.state) xs =
     each_going_out (IsTrueOrder s.given (heard o) s.state) t (no_order s.pending)
-    (each_weaker (λ (u : Unacknowledged). IsHeld s.given (heard o) s.state u.order) (λ (u : Unacknowledged). IsTrueOrder s.given (heard o) s.state (Orders u.order)) (λ u h. h.0)
+    (each_weaker (λ (u : Unacknowledged). IsHeld s.given (heard o) s.state u.order)
+    (λ (u : Unacknowledged). IsTrueOrder s.given (heard o) s.state (Orders u.order)) (λ u h. h.0)
     s.unacknowledged (each_unmap (IsHeld s.given (heard o) s.state) order_of s.unacknowledged k.0.held)) in
     let wrote : Both t (ws ++ one_written t xs) o wo = wrote_more t xs t ws o wo refl orders_true answers_true k in
     let fewer : Both (record t { pending = drop n s.pending }) (ws ++ one_written t xs) o wo =

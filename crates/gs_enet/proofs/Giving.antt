@@ -5,7 +5,8 @@ use Rattle.std.proofs.lemmas.Bool.{cases_eq, eq-eqb, leb-false, and_cases, false
 use Rattle.std.proofs.lemmas.List.{append_assoc, length-append}
 use Rattle.gs_enet.specs.declared.event.PeerEvent.{PeerEvent}
 use Rattle.gs_enet.specs.declared.state.PeerState.{PeerState}
-use Rattle.gs_enet.specs.Record.{Unacknowledged, Content, Connect, VerifyConnect, Disconnect, Message, Order, Answer, Given, channels, fresh, given_on, messages_on}
+use Rattle.gs_enet.specs.declared.answer.Answer.{Answer}
+use Rattle.gs_enet.specs.Record.{Unacknowledged, Content, Connect, VerifyConnect, Disconnect, Message, Order, Given, channels, fresh, given_on, messages_on}
 use Rattle.gs_enet.specs.Steps.{placed, comes_before}
 use Rattle.gs_enet.specs.Write.{Item, Answers, Orders}
 use Rattle.gs_enet.specs.World.{Written}
@@ -35,7 +36,8 @@ has_placed u c n (v ∷ vs) h = here (λ later. has_placed u c n vs later) (come
 has_own : (u : Unacknowledged) (us : List Unacknowledged) → Has u.order.channel u.order.number (map order_of (placed u us))
 has_own u [] = inl (refl, refl)
 has_own u (v ∷ vs) = here (has_own u vs) (comes_before u.order v.order) where
-  here : Has u.order.channel u.order.number (map order_of (placed u vs)) → (b : Bool) → Has u.order.channel u.order.number (map order_of (cond b (u ∷ v ∷ vs) (v ∷ placed u vs)))
+  here : Has u.order.channel u.order.number (map order_of (placed u vs)) → (b : Bool)
+      → Has u.order.channel u.order.number (map order_of (cond b (u ∷ v ∷ vs) (v ∷ placed u vs)))
   here later true = inl (refl, refl)
   here later false = inr later
 
@@ -69,7 +71,8 @@ item_given : (gv : List Given) (hr : List PeerEvent) (sg : PeerState) → (IsOve
 item_given gv hr sg up c bytes (Orders o) h = says_given gv hr sg up c bytes o.content o.channel o.number h
 item_given gv hr sg up c bytes (Answers a) h = tt
 
-window_given : (gv : List Given) (c : ℕ) (bytes : List ℕ) (o : Order) → (o.channel ≡ c → length (given_on c gv) + 1 < o.number + 256) → IsInWindow gv o → IsInWindow (gv ++ giving c bytes) o
+window_given : (gv : List Given) (c : ℕ) (bytes : List ℕ) (o : Order) → (o.channel ≡ c → length (given_on c gv) + 1 < o.number + 256) → IsInWindow gv o
+    → IsInWindow (gv ++ giving c bytes) o
 window_given gv c bytes o own h below = elim (cases_eq c o.channel) [
   | inl same ↦ subst (λ (e : ℕ). length (given_on e (gv ++ giving c bytes)) < o.number + 256) same
       (omega (arith, own (sym same), ap length (given_on-own c bytes gv), length-append (given_on c gv) (bytes ∷ [])))
@@ -77,7 +80,8 @@ window_given gv c bytes o own h below = elim (cases_eq c o.channel) [
 ]
 
 -- a message on a channel whose held commands are all among the last 255
-pub gives : {gv : List Given} {sg : PeerState} {hg : List PeerEvent} {wg : List Written} {hr : List PeerEvent} {pr : List Answer} {sr : PeerState} {wr : List Written}
+pub gives : {gv : List Given} {sg : PeerState} {hg : List PeerEvent} {wg : List Written} {hr : List PeerEvent} {pr : List Answer} {sr : PeerState}
+    {wr : List Written}
     (us : List Unacknowledged) (c : ℕ) (bytes : List ℕ) → Kept gv (map order_of us) sg hg wg hr pr sr wr → (IsOver sg → ⊥) → c < channels
     → Each (λ (u : Unacknowledged). u.order.channel ≡ c → length (given_on c gv) + 1 < u.order.number + 256) us
     → Kept (gv ++ giving c bytes) (map order_of (placed (fresh (Message bytes) c (length (given_on c gv) + 1)) us)) sg hg wg hr pr sr wr
@@ -130,7 +134,8 @@ gives {gv = gv} {sg = sg} {wg = wg} {hr = hr} us c bytes k up below room =
 
 -- ---- what a full window is
 
-room_from_test : (c next : ℕ) (u : Unacknowledged) → ((u.order.channel == c) && nat_le (u.order.number + 256) next) ≡ false → u.order.channel ≡ c → next < u.order.number + 256
+room_from_test : (c next : ℕ) (u : Unacknowledged) → ((u.order.channel == c) && nat_le (u.order.number + 256) next) ≡ false → u.order.channel ≡ c
+    → next < u.order.number + 256
 room_from_test c next u e same = elim (and_cases (u.order.channel == c) (nat_le (u.order.number + 256) next) e) [
   | inl apart ↦ absurd (false≢true (sym apart ∙ eq-eqb u.order.channel c same))
   | inr small ↦ leb-false (u.order.number + 256) next small

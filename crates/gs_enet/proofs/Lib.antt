@@ -1,4 +1,5 @@
 mod Examples
+mod ApartExamples
 pub mod Lists
 pub mod Kept
 pub mod Moves
@@ -6,3 +7,24 @@ pub mod Giving
 pub mod Acts
 pub mod Receipt
 pub mod TwoSides
+pub mod Rising
+pub mod HeldMessages
+pub mod WrittenMessages
+pub mod Alone
+pub mod AloneCalls
+pub mod AloneReads
+pub mod Hearing
+pub mod Hears
+pub mod FrontRead
+pub mod ApartSides
+pub mod Windows
+pub mod Flat
+pub mod Standings
+pub mod Timings
+pub mod Arrivals
+pub mod Acknowledging
+pub mod Commands
+pub mod Due
+pub mod Outgoing
+pub mod Firsts
+pub mod Repeating

@@ -7,7 +7,8 @@ use Rattle.std.proofs.lemmas.List.Elements.{Contains-push_cases}
 use Rattle.gs_enet.specs.declared.event.PeerEvent.{PeerEvent}
 use Rattle.gs_enet.specs.declared.event.PeerEvent.TheVariants as event
 use Rattle.gs_enet.specs.declared.state.PeerState.{PeerState}
-use Rattle.gs_enet.specs.Record.{Content, Connect, VerifyConnect, Disconnect, Message, Order, Answer, Given, given_on, messages_on}
+use Rattle.gs_enet.specs.declared.answer.Answer.{Answer}
+use Rattle.gs_enet.specs.Record.{Content, Connect, VerifyConnect, Disconnect, Message, Order, Given, given_on, messages_on}
 use Rattle.gs_enet.specs.Write.{Item, Answers, Orders}
 use Rattle.gs_enet.specs.World.{Written}
 use Rattle.gs_enet.specs.Laws.{IsPrefixOf}
@@ -44,7 +45,8 @@ pub answer_more : (hr hr' : List PeerEvent) → IsFewer hr hr' → (a : Answer) 
 answer_more hr hr' fewer a h below = let had = h below in (had.0, omega (arith, had.1, fewer a.channel), had.2)
 
 -- the reader hears more, and owes other answers
-pub hears : {gv : List Given} {os : List Order} {sg : PeerState} {hg : List PeerEvent} {wg : List Written} {hr : List PeerEvent} {pr : List Answer} {sr : PeerState} {wr : List Written}
+pub hears : {gv : List Given} {os : List Order} {sg : PeerState} {hg : List PeerEvent} {wg : List Written} {hr : List PeerEvent} {pr : List Answer}
+    {sr : PeerState} {wr : List Written}
     (hr' : List PeerEvent) (pr' : List Answer) (sr' : PeerState) → Kept gv os sg hg wg hr pr sr wr → IsFewer hr hr'
     → ((c : ℕ) → IsPrefixOf (messages_on c hr') (given_on c gv)) → Each (IsTrueAnswer hr') pr'
     → (Contains hr' event.PeerClosed → IsDone gv hr' sg × IsShut sr') → IsLast hr'
@@ -65,7 +67,8 @@ hears {gv = gv} {os = os} {sg = sg} {wg = wg} {hr = hr} {wr = wr} hr' pr' sr' k 
     }
 
 -- the giver holds other commands, is in another state, and hears other events
-pub moves : {gv : List Given} {os : List Order} {sg : PeerState} {hg : List PeerEvent} {wg : List Written} {hr : List PeerEvent} {pr : List Answer} {sr : PeerState} {wr : List Written}
+pub moves : {gv : List Given} {os : List Order} {sg : PeerState} {hg : List PeerEvent} {wg : List Written} {hr : List PeerEvent} {pr : List Answer}
+    {sr : PeerState} {wr : List Written}
     (os' : List Order) (sg' : PeerState) (hg' : List PeerEvent) → Kept gv os sg hg wg hr pr sr wr → (IsOver sg → IsOver sg')
     → Each (IsHeld gv hr sg') os' → ((c n : ℕ) → 1 ≤ n → n ≤ length (given_on c gv) → (n ≤ count_of c hr) ⊎ Has c n os')
     → (Contains hg' event.Closed → IsDone gv hr sg')
@@ -90,7 +93,8 @@ pub is_held_more : (gv : List Given) (hr : List PeerEvent) (sg sg' : PeerState) 
 is_held_more gv hr sg sg' over os = held_more gv hr hr sg sg' (λ d. record { all = d.all; over = over d.over }) os
 
 -- the giver is in another state and hears an event
-pub turns : {gv : List Given} {os : List Order} {sg : PeerState} {hg : List PeerEvent} {wg : List Written} {hr : List PeerEvent} {pr : List Answer} {sr : PeerState} {wr : List Written}
+pub turns : {gv : List Given} {os : List Order} {sg : PeerState} {hg : List PeerEvent} {wg : List Written} {hr : List PeerEvent} {pr : List Answer}
+    {sr : PeerState} {wr : List Written}
     (sg' : PeerState) (e : PeerEvent) → Kept gv os sg hg wg hr pr sr wr → (IsOver sg → IsOver sg') → (e ≡ event.Closed → IsDone gv hr sg')
     → Kept gv os sg' (hg ++ e ∷ []) wg hr pr sr wr
 turns {gv = gv} {os = os} {sg = sg} {hg = hg} {hr = hr} sg' e k over now =
@@ -128,7 +132,8 @@ last_message (event.Message d m other ∷ hr) c n bytes none h = (tt, last_messa
 last_message (event.Lost d m ∷ hr) c n bytes none h = (tt, last_message hr c n bytes (λ has. none (contains_tail _ hr _ has)) h.1)
 
 -- an event that is no message
-pub hears_other : {gv : List Given} {os : List Order} {sg : PeerState} {hg : List PeerEvent} {wg : List Written} {hr : List PeerEvent} {pr : List Answer} {sr : PeerState} {wr : List Written}
+pub hears_other : {gv : List Given} {os : List Order} {sg : PeerState} {hg : List PeerEvent} {wg : List Written} {hr : List PeerEvent} {pr : List Answer}
+    {sr : PeerState} {wr : List Written}
     (sr' : PeerState) (e : PeerEvent) → Kept gv os sg hg wg hr pr sr wr → IsNoMessage e → (IsShut sr → IsShut sr')
     → (e ≡ event.PeerClosed → IsDone gv hr sg × IsShut sr')
     → Kept gv os sg hg wg (hr ++ e ∷ []) pr sr' wr
@@ -145,14 +150,15 @@ hears_other {gv = gv} {sg = sg} {hr = hr} {pr = pr} sr' e k quiet shut now =
     (last_push hr e quiet k.last)
 
 -- one more answer, and a state in which what was over is over
-pub owes : {gv : List Given} {os : List Order} {sg : PeerState} {hg : List PeerEvent} {wg : List Written} {hr : List PeerEvent} {pr : List Answer} {sr : PeerState} {wr : List Written}
+pub owes : {gv : List Given} {os : List Order} {sg : PeerState} {hg : List PeerEvent} {wg : List Written} {hr : List PeerEvent} {pr : List Answer}
+    {sr : PeerState} {wr : List Written}
     (pr' : List Answer) (sr' : PeerState) → Kept gv os sg hg wg hr pr sr wr → Each (IsTrueAnswer hr) pr' → (IsShut sr → IsShut sr')
     → Kept gv os sg hg wg hr pr' sr' wr
 owes {hr = hr} pr' sr' k owed shut =
     hears hr pr' sr' k (λ c. omega arith) k.in_order owed (λ has. let had = k.peer_closed has in (had.0, shut had.1)) k.last
 
 -- a front as long as another, of one list
-same_front : (front rest front' rest' : List (List ℕ)) → front ++ rest ≡ front' ++ rest' → length front ≡ length front' → front ≡ front'
+pub same_front : (front rest front' rest' : List (List ℕ)) → front ++ rest ≡ front' ++ rest' → length front ≡ length front' → front ≡ front'
 same_front [] rest [] rest' e l = refl
 same_front [] rest (y ∷ ys) rest' e l = absurd (omega (arith, l))
 same_front (x ∷ xs) rest [] rest' e l = absurd (omega (arith, l))
@@ -162,13 +168,15 @@ same_front (x ∷ xs) rest (y ∷ ys) rest' e l =
     let fronts : xs ≡ ys = same_front xs rest ys rest' tails (omega (arith, l)) in
     cc
 
-grown : (known rest given : List (List ℕ)) (n : ℕ) (bytes : List ℕ) → known ++ rest ≡ given → n ≡ length known + 1 → IsAt given n bytes → IsPrefixOf (known ++ bytes ∷ []) given
+grown : (known rest given : List (List ℕ)) (n : ℕ) (bytes : List ℕ) → known ++ rest ≡ given → n ≡ length known + 1 → IsAt given n bytes
+    → IsPrefixOf (known ++ bytes ∷ []) given
 grown known rest given n bytes e count place =
     let same : known ≡ place.front = same_front known rest place.front (bytes ∷ place.rest) (e ∙ place.parts) (omega (arith, place.at, count)) in
     (place.rest, append_assoc known (bytes ∷ []) place.rest ∙ ap (λ (w : List (List ℕ)). w ++ bytes ∷ place.rest) same ∙ sym place.parts)
 
 -- the next message of a channel
-pub hears_message : {gv : List Given} {os : List Order} {sg : PeerState} {hg : List PeerEvent} {wg : List Written} {hr : List PeerEvent} {pr : List Answer} {sr : PeerState} {wr : List Written}
+pub hears_message : {gv : List Given} {os : List Order} {sg : PeerState} {hg : List PeerEvent} {wg : List Written} {hr : List PeerEvent} {pr : List Answer}
+    {sr : PeerState} {wr : List Written}
     (c n : ℕ) (bytes : List ℕ) → Kept gv os sg hg wg hr pr sr wr → (IsShut sr → ⊥) → n ≡ count_of c hr + 1 → IsAt (given_on c gv) n bytes
     → Kept gv os sg hg wg (hr ++ event.Message c n bytes ∷ []) pr sr wr
 hears_message {gv = gv} {sg = sg} {hr = hr} {pr = pr} {sr = sr} c n bytes k going next place =

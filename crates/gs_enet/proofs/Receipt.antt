@@ -8,7 +8,8 @@ use Rattle.gs_enet.specs.declared.event.PeerEvent.{PeerEvent}
 use Rattle.gs_enet.specs.declared.event.PeerEvent.TheVariants as event
 use Rattle.gs_enet.specs.declared.state.PeerState.{PeerState}
 use Rattle.gs_enet.specs.declared.state.PeerState.TheVariants as state
-use Rattle.gs_enet.specs.Record.{PeerRecord, Unacknowledged, Content, Connect, VerifyConnect, Disconnect, Message, Order, Answer, Given, channels, control, given_on, messages_on, heard, heard_count, orders, shut, happened, owing, at_moment}
+use Rattle.gs_enet.specs.declared.answer.Answer.{Answer}
+use Rattle.gs_enet.specs.Record.{PeerRecord, Unacknowledged, Content, Connect, VerifyConnect, Disconnect, Message, Order, Given, channels, control, given_on, messages_on, heard, heard_count, orders, shut, happened, owing, at_moment}
 use Rattle.gs_enet.specs.Receive.{takes_messages, expected, distance, message_if, is_next, is_behind, taken_if, is_connect, verified, verify_if, disconnect_if, connected, acknowledged, is_named, acknowledged_if, answer_to, received, all_received}
 use Rattle.gs_enet.specs.Steps.{next_number}
 use Rattle.gs_enet.specs.Write.{Item, Answers, Orders, item_command, order_command}
@@ -48,7 +49,8 @@ same_hears : (es fs : List PeerEvent) → es ≡ fs → (s : PeerRecord) (ws : L
     → Kept s.given (orders s) s.state es ws (heard o) o.pending o.state wo × Kept o.given (orders o) o.state (heard o) wo es s.pending s.state ws
     → Kept s.given (orders s) s.state fs ws (heard o) o.pending o.state wo × Kept o.given (orders o) o.state (heard o) wo fs s.pending s.state ws
 same_hears es fs e s ws o wo k =
-    subst (λ (x : List PeerEvent). Kept s.given (orders s) s.state x ws (heard o) o.pending o.state wo × Kept o.given (orders o) o.state (heard o) wo x s.pending s.state ws) e k
+    subst (λ (x : List PeerEvent). Kept s.given (orders s) s.state x ws (heard o) o.pending o.state wo
+    × Kept o.given (orders o) o.state (heard o) wo x s.pending s.state ws) e k
 
 message_both : (next behind : Bool) (c n : ℕ) (bytes : List ℕ) (sent : ℕ) (s : PeerRecord) (ws : List Written) (o : PeerRecord) (wo : List Written)
     → is_next (n % 65536) (expected s c) ≡ next → is_behind (n % 65536) (expected s c) ≡ behind → (IsShut s.state → ⊥) → IsAt (given_on c o.given) n bytes
@@ -94,15 +96,18 @@ has_kept test Q c n (u ∷ us) h has = here (test u) refl (λ later. has_kept te
   here false e go (inl first) = inl (h.0 e first.0 first.1)
   here false e go (inr later) = go later
 
-connect_is_control : (gv : List Given) (hr : List PeerEvent) (sg : PeerState) (o : Order) → not (is_connect o) ≡ false → Says gv hr sg o.content o.channel o.number → o.channel ≡ control
+connect_is_control : (gv : List Given) (hr : List PeerEvent) (sg : PeerState) (o : Order) → not (is_connect o) ≡ false
+    → Says gv hr sg o.content o.channel o.number → o.channel ≡ control
 connect_is_control gv hr sg o e says = here o.content o.channel o.number (ap (λ x. x) e) says where
-  here : (content : Content) (c n : ℕ) → not (is_connect (record { content = content; channel = c; number = n })) ≡ false → Says gv hr sg content c n → c ≡ control
+  here : (content : Content) (c n : ℕ) → not (is_connect (record { content = content; channel = c; number = n })) ≡ false → Says gv hr sg content c n
+      → c ≡ control
   here Connect c n e says = says
   here VerifyConnect c n e says = says
   here Disconnect c n e says = says.0
   here (Message bytes) c n e says = absurd (false≢true (sym e))
 
-given_below : {gv : List Given} {os : List Order} {sg : PeerState} {hg : List PeerEvent} {wg : List Written} {hr : List PeerEvent} {pr : List Answer} {sr : PeerState} {wr : List Written}
+given_below : {gv : List Given} {os : List Order} {sg : PeerState} {hg : List PeerEvent} {wg : List Written} {hr : List PeerEvent} {pr : List Answer}
+    {sr : PeerState} {wr : List Written}
     (c n : ℕ) → Kept gv os sg hg wg hr pr sr wr → 1 ≤ n → n ≤ length (given_on c gv) → c < channels
 given_below {gv = gv} c n k least most = elim (cases_lt c channels) [
   | inl below ↦ below
@@ -123,12 +128,19 @@ verify_both state.Connecting peer a s ws o wo is at k =
     let t : PeerRecord = record s { other = Some peer; unacknowledged = us } in
     let dropped : Both t ws o wo = (
       moves (map order_of us) s.state (heard s) k.0 (λ h. h)
-          (each_map (IsHeld s.given (heard o) s.state) order_of us (each_filter (λ (u : Unacknowledged). IsHeld s.given (heard o) s.state u.order) test s.unacknowledged held))
+          (each_map (IsHeld s.given (heard o) s.state) order_of us (each_filter
+          (λ (u : Unacknowledged). IsHeld s.given (heard o) s.state u.order) test s.unacknowledged held))
           (λ c n least most. elim (k.0.covered c n least most) [
             | inl below ↦ inl below
             | inr has ↦ elim (has_kept test ⊥ c n s.unacknowledged
-                (each_weaker (λ (u : Unacknowledged). IsHeld s.given (heard o) s.state u.order) (λ (u : Unacknowledged). test u ≡ false → u.order.channel ≡ c → u.order.number ≡ n → ⊥)
-                (λ u h no same_c same_n. absurd (omega (arith, given_below c n k.0 least most, same_c, connect_is_control s.given (heard o) s.state u.order no h.0))) s.unacknowledged held)
+                (each_weaker (λ (u : Unacknowledged). IsHeld s.given (heard o) s.state u.order)
+                (λ (u : Unacknowledged). test u ≡ false → u.order.channel ≡ c → u.order.number ≡ n → ⊥)
+                (λ u h no same_c same_n. absurd (omega (
+                  arith,
+                  given_below c n k.0 least most,
+                  same_c,
+                  connect_is_control s.given (heard o) s.state u.order no h.0,
+                ))) s.unacknowledged held)
                 has) [ inl never ↦ absurd never | inr kept ↦ inr kept ]
           ])
           k.0.closed,
@@ -175,14 +187,16 @@ acknowledged_both Disconnect c n s ws o wo says k =
     shut_both event.Closed s ws o wo k tt (λ _. record { all = says.1.all; over = tt }) (λ clash. absurd cc)
 
 -- of the last 256 numbers only one has these 16 bits, and it was heard of
-was_heard : (n size count number next : ℕ) → n ≤ size → size < n + 256 → count ≤ size → HasAnswered count number → size + 1 ≤ answered count number + 32767 → n % 65536 ≡ number
+was_heard : (n size count number next : ℕ) → n ≤ size → size < n + 256 → count ≤ size → HasAnswered count number → size + 1 ≤ answered count number + 32767
+    → n % 65536 ≡ number
     → n ≤ count
 was_heard n size count number next most window few had near same =
     let m : ℕ = had.0 in
     let small : m ≤ count = had.1 in
     let low : m % 65536 ≡ number = had.2 in
     was n size count m most window few small (subst (λ (x : ℕ). size + 1 ≤ answered count x + 32767) (sym low) near) (same ∙ sym low) where
-      was : (n size count m : ℕ) → n ≤ size → size < n + 256 → count ≤ size → m ≤ count → size + 1 ≤ answered count (m % 65536) + 32767 → n % 65536 ≡ m % 65536 → n ≤ count
+      was : (n size count m : ℕ) → n ≤ size → size < n + 256 → count ≤ size → m ≤ count → size + 1 ≤ answered count (m % 65536) + 32767
+          → n % 65536 ≡ m % 65536 → n ≤ count
       was n size count m most window few small near same = omega arith
 
 acknowledge_both : (found : Option Unacknowledged) (c number : ℕ) (by s : PeerRecord) (ws : List Written) (o : PeerRecord) (wo : List Written)
@@ -199,7 +213,8 @@ acknowledge_both (Some u) c number by s ws o wo e fewer honest near k =
     let t : PeerRecord = record s { unacknowledged = us } in
     let dropped : Both t ws o wo = (
       moves (map order_of us) s.state (heard s) k.0 (λ h. h)
-          (each_map (IsHeld s.given (heard o) s.state) order_of us (each_filter (λ (v : Unacknowledged). IsHeld s.given (heard o) s.state v.order) test s.unacknowledged held))
+          (each_map (IsHeld s.given (heard o) s.state) order_of us (each_filter
+          (λ (v : Unacknowledged). IsHeld s.given (heard o) s.state v.order) test s.unacknowledged held))
           (λ d n least most. elim (k.0.covered d n least most) [
             | inl below ↦ inl below
             | inr has ↦ has_kept test (n ≤ count_of d (heard o)) d n s.unacknowledged
@@ -214,7 +229,8 @@ acknowledge_both (Some u) c number by s ws o wo e fewer honest near k =
     let found = each_find (λ (v : Unacknowledged). IsHeld s.given (heard o) s.state v.order) (is_named c number) s.unacknowledged u held e in
     acknowledged_both u.order.content u.order.channel u.order.number t ws o wo found.0.0 dropped
   where
-    gone : (v : Unacknowledged) → IsHeld s.given (heard o) s.state v.order → not (is_named c number v) ≡ false → (d n : ℕ) → v.order.channel ≡ d → v.order.number ≡ n
+    gone : (v : Unacknowledged) → IsHeld s.given (heard o) s.state v.order → not (is_named c number v) ≡ false → (d n : ℕ) → v.order.channel ≡ d
+        → v.order.number ≡ n
         → 1 ≤ n → n ≤ length (given_on d s.given) → n ≤ count_of d (heard o)
     gone v h dropped d n same_d same_n least most =
         let named = and_parts (v.order.channel == c) (v.order.number % 65536 == number) (not-false (is_named c number v) dropped) in
@@ -227,11 +243,13 @@ acknowledge_both (Some u) c number by s ws o wo e fewer honest near k =
         (subst (λ (x : ℕ). length (given_on v.order.channel s.given) < x + 256) same_n (h.1 (omega (arith, same_d, below)))) in
         let few : count_of d (heard by) ≤ length (given_on d s.given) =
         omega (arith, fewer d, ap length (k.0.in_order d).1, length-append (messages_on d (heard o)) (k.0.in_order d).0) in
-        let had : HasAnswered (count_of d (heard by)) number = subst (λ (x : ℕ). HasAnswered (count_of x (heard by)) number) c_is (honest (omega (arith, c_is, below))) in
+        let had : HasAnswered (count_of d (heard by)) number = subst (λ (x : ℕ). HasAnswered (count_of x (heard by)) number) c_is
+        (honest (omega (arith, c_is, below))) in
         let close : length (given_on d s.given) + 1 ≤ answered (count_of d (heard by)) number + 32767 =
         subst (λ (x : ℕ). next_number s x ≤ answered (heard_count by x) number + 32767) c_is (near (omega (arith, c_is, below))) in
         let known : n ≤ count_of d (heard by) =
-        was_heard n (length (given_on d s.given)) (count_of d (heard by)) number 0 most window few had close (subst (λ (x : ℕ). x % 65536 ≡ number) same_n low) in
+        was_heard n (length (given_on d s.given)) (count_of d (heard by)) number 0 most window few had close
+        (subst (λ (x : ℕ). x % 65536 ≡ number) same_n low) in
         omega (arith, known, fewer d)
 
 -- ---- an item of a datagram that the other side wrote

@@ -87,12 +87,12 @@ start_holds (Host own other connect_id now) (Host own' other' connect_id' now') 
 -- ---- what follows
 
 -- a prefix as long as the whole
-whole_prefix : (xs rest ys : List (List ℕ)) → xs ++ rest ≡ ys → length ys ≤ length xs → xs ≡ ys
+pub whole_prefix : (xs rest ys : List (List ℕ)) → xs ++ rest ≡ ys → length ys ≤ length xs → xs ≡ ys
 whole_prefix xs [] ys e most = sym (append-nil xs) ∙ e
 whole_prefix xs (r ∷ rest) ys e most = absurd (omega (arith, ap length e, length-append xs (r ∷ rest), most))
 
 -- behind the other side's disconnect no message waits
-none_waits : (es fs : List PeerEvent) → IsLast (es ++ fs) → Contains es event.PeerClosed → (c : ℕ) → messages_on c fs ≡ []
+pub none_waits : (es fs : List PeerEvent) → IsLast (es ++ fs) → Contains es event.PeerClosed → (c : ℕ) → messages_on c fs ≡ []
 none_waits [] fs h has c = absurd (omega (arith, has.1))
 none_waits (event.PeerClosed ∷ es) fs h has c = empty_end (messages_on c es) (messages_on c fs) (sym (messages_on-append c es fs) ∙ h.0 c) where
   empty_end : (xs ys : List (List ℕ)) → xs ++ ys ≡ [] → ys ≡ []
@@ -117,8 +117,10 @@ in_order_from g r k =
       );
       whole = λ has c.
           let done = k.peer_closed (Contains-append_left r.told r.waiting event.PeerClosed has) in
-          let all : messages_on c (heard r) ≡ given_on c g.given = whole_prefix (messages_on c (heard r)) (k.in_order c).0 (given_on c g.given) (k.in_order c).1 (done.0.all c) in
-          sym (messages_on-append c r.told r.waiting ∙ ap (λ (w : List (List ℕ)). told r c ++ w) (none_waits r.told r.waiting k.last has c) ∙ append-nil (told r c)) ∙ all;
+          let all : messages_on c (heard r) ≡ given_on c g.given = whole_prefix (messages_on c (heard r)) (k.in_order c).0 (given_on c g.given)
+          (k.in_order c).1 (done.0.all c) in
+          sym (messages_on-append c r.told r.waiting ∙ ap (λ (w : List (List ℕ)). told r c ++ w) (none_waits r.told r.waiting k.last has c)
+          ∙ append-nil (told r c)) ∙ all;
       arrived = λ has c. whole_prefix (messages_on c (heard r)) (k.in_order c).0 (given_on c g.given) (k.in_order c).1 ((k.closed has).all c);
     }
 

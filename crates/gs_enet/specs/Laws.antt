@@ -7,13 +7,14 @@ use Rattle.gs_enet.specs.World.{Event, Opening, start, run, AllNear}
 abbrev pub IsPrefixOf : List (List ℕ) → List (List ℕ) → Type 0
 IsPrefixOf xs ys = (rest : List (List ℕ)) × (xs ++ rest ≡ ys)
 
--- What the one side gave and what the other told, on every channel. What was told is what was given first, in order; once the
--- other side told that this one disconnected, it is all of it. Once this side heard that its own disconnect was acknowledged, the
--- other has told all of it or holds what is left ready to be told.
+-- What the one side gave and what the other told, on every channel. What was told is what was given first, in order;
+-- once the other side told that this one disconnected, it is all of it. Once this side heard that its own disconnect
+-- was acknowledged, the other has told all of it or holds what is left ready to be told.
 pub record AreInOrder (giver reader : PeerRecord) : Type 0 where
   pub prefix : (channel : ℕ) → IsPrefixOf (told reader channel) (given_on channel giver.given)
   pub whole : Contains reader.told event.PeerClosed → (channel : ℕ) → told reader channel ≡ given_on channel giver.given
-  pub arrived : Contains (heard giver) event.Closed → (channel : ℕ) → messages_on channel (heard reader) ≡ given_on channel giver.given
+  pub arrived : Contains (heard giver) event.Closed → (channel : ℕ)
+      → messages_on channel (heard reader) ≡ given_on channel giver.given
 
 -- of two new sides, whatever each user does and whatever is lost, repeated or late, as long as numbers are near
 abbrev pub MessagesInOrder : Type 0

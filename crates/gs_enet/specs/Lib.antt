@@ -4,3 +4,16 @@ pub mod Steps
 pub mod Write
 pub mod World
 pub mod Laws
+pub mod Apart
+pub mod Window
+pub mod Channels
+pub mod Controls
+pub mod Standing
+pub mod TakeErrors
+pub mod Rooms
+pub mod Events
+pub mod Busy
+pub mod Puts
+pub mod Items
+pub mod Outcomes
+pub mod WrittenLaw

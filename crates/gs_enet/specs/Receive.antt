@@ -7,7 +7,8 @@ use Rattle.gs_enet_wire.specs.declared.datagram.Datagram.{Datagram}
 use Rattle.gs_enet.specs.declared.event.PeerEvent.TheVariants as event
 use Rattle.gs_enet.specs.declared.state.PeerState.{PeerState}
 use Rattle.gs_enet.specs.declared.state.PeerState.TheVariants as state
-use Rattle.gs_enet.specs.Record.{PeerRecord, Content, Connect, VerifyConnect, Disconnect, Message, Order, Unacknowledged, Answer, channels, control, last_number, heard_count, is_shut, at_moment, happened, owing, shut, fresh}
+use Rattle.gs_enet.specs.declared.answer.Answer.{Answer}
+use Rattle.gs_enet.specs.Record.{PeerRecord, Content, Connect, VerifyConnect, Disconnect, Message, Order, Unacknowledged, channels, control, last_number, heard_count, is_shut, at_moment, happened, owing, shut, fresh}
 
 -- ---- messages
 
@@ -25,7 +26,8 @@ expected r channel = heard_count r channel + 1
 abbrev pub distance : ℕ → ℕ → ℕ
 distance number expected = (number + 65536 - expected % 65536) % 65536
 
--- The next message is told and acknowledged, one that was told before is acknowledged again, and one past a gap is dropped.
+-- The next message is told and acknowledged, one that was told before is acknowledged again, and one past a gap is
+-- dropped.
 abbrev pub message_if : (next behind : Bool) → ℕ → ℕ → List ℕ → Answer → PeerRecord → PeerRecord
 message_if true behind channel number bytes a r = owing a (happened (event.Message channel number bytes) r)
 message_if false true channel number bytes a r = owing a r
@@ -39,24 +41,33 @@ is_behind number expected = nat_le 32768 (distance number expected)
 
 abbrev pub taken_if : (taken : Bool) → ℕ → ℕ → List ℕ → Answer → PeerRecord → PeerRecord
 taken_if true channel number bytes a r =
-    message_if (is_next number (expected r channel)) (is_behind number (expected r channel)) channel (expected r channel) bytes a r
+    message_if (is_next number (expected r channel)) (is_behind number (expected r channel))
+    channel (expected r channel) bytes a r
 taken_if false channel number bytes a r = r
 
 abbrev pub message_came : ℕ → ℕ → List ℕ → Answer → PeerRecord → PeerRecord
-message_came channel number bytes a r = taken_if (nat_lt channel channels && takes_messages r.state) channel number bytes a r
+message_came channel number bytes a r =
+    taken_if (nat_lt channel channels && takes_messages r.state) channel number bytes a r
 
 -- ---- the answer to a connect
 
+abbrev pub is_connect_content : Content → Bool
+is_connect_content Connect = true
+is_connect_content VerifyConnect = false
+is_connect_content Disconnect = false
+is_connect_content (Message bytes) = false
+
 abbrev pub is_connect : Order → Bool
-is_connect o = is_connect_content o.content where
-  is_connect_content : Content → Bool
-  is_connect_content Connect = true
-  is_connect_content _ = false
+is_connect o = is_connect_content o.content
 
 -- The first one connects a client. One that comes again is acknowledged again.
 abbrev pub verified : PeerState → ℕ → Answer → PeerRecord → PeerRecord
 verified state.Connecting peer a r =
-    owing a (happened event.Connected (record r { state = state.Connected; other = Some peer; unacknowledged = filter (λ u. not (is_connect u.order)) r.unacknowledged }))
+    owing a (happened event.Connected (record r {
+      state = state.Connected;
+      other = Some peer;
+      unacknowledged = filter (λ u. not (is_connect u.order)) r.unacknowledged;
+    }))
 verified state.Connected peer a r = owing a r
 verified state.Closing peer a r = owing a r
 verified state.Accepting peer a r = r
@@ -119,7 +130,9 @@ is_named channel number u = (u.order.channel == channel) && (u.order.number % 65
 abbrev pub acknowledged_if : Option Unacknowledged → ℕ → ℕ → PeerRecord → PeerRecord
 acknowledged_if None channel number r = r
 acknowledged_if (Some u) channel number r =
-    acknowledged u.order.content (record r { unacknowledged = filter (λ v. not (is_named channel number v)) r.unacknowledged })
+    acknowledged u.order.content (record r {
+      unacknowledged = filter (λ v. not (is_named channel number v)) r.unacknowledged;
+    })
 
 -- it drops the command that it names, if there is one
 abbrev pub acknowledge_came : ℕ → ℕ → PeerRecord → PeerRecord
@@ -133,13 +146,18 @@ answer_to sent channel number = record { channel = channel; number = number; sen
 -- One command, of a datagram with that sent time. What isn't named here is ignored.
 unfoldable pub received : ℕ → Command → PeerRecord → PeerRecord
 received sent (command.Acknowledge channel number asks named named_sent) r = acknowledge_came channel named r
-received sent (command.VerifyConnect channel number asks peer incoming outgoing mtu window most incoming_bandwidth outgoing_bandwidth throttle_interval acceleration deceleration connect_id) r =
+received sent (command.VerifyConnect channel number asks peer incoming outgoing mtu window most incoming_bandwidth
+    outgoing_bandwidth throttle_interval acceleration deceleration connect_id) r =
     verify_came peer connect_id (answer_to sent channel number) r
-received sent (command.Disconnect channel number asks extra) r = disconnect_came (record (answer_to sent channel number) { to_disconnect = true }) r
+received sent (command.Disconnect channel number asks extra) r =
+    disconnect_came (record (answer_to sent channel number) { to_disconnect = true }) r
 received sent (command.Ping channel number asks) r = other_came asks (answer_to sent channel number) r
-received sent (command.Bandwidth channel number asks incoming outgoing) r = other_came asks (answer_to sent channel number) r
-received sent (command.Throttle channel number asks interval acceleration deceleration) r = other_came asks (answer_to sent channel number) r
-received sent (command.Reliable channel number asks bytes) r = message_came channel number bytes (answer_to sent channel number) r
+received sent (command.Bandwidth channel number asks incoming outgoing) r =
+    other_came asks (answer_to sent channel number) r
+received sent (command.Throttle channel number asks interval acceleration deceleration) r =
+    other_came asks (answer_to sent channel number) r
+received sent (command.Reliable channel number asks bytes) r =
+    message_came channel number bytes (answer_to sent channel number) r
 received sent _ r = r
 
 abbrev pub all_received : ℕ → List Command → PeerRecord → PeerRecord

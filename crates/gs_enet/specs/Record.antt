@@ -1,6 +1,7 @@
 -- What one side of a connection is. A channel's messages are numbered from 1, without wrap.
 use Rattle.std.specs.Prelude.{ℕ, ◌-◌, ◌^◌, ◌==◌, Bool, true, false, if◌then◌else◌, List, [], ◌∷◌, ◌++◌, length, map, max, Option, Some, None}
 use Rattle.std.specs.List.{filter}
+use Rattle.gs_enet.specs.declared.answer.Answer.{Answer}
 use Rattle.gs_enet.specs.declared.event.PeerEvent.{PeerEvent}
 use Rattle.gs_enet.specs.declared.event.PeerEvent.TheVariants as event
 use Rattle.gs_enet.specs.declared.state.PeerState.{PeerState}
@@ -37,14 +38,6 @@ pub record Unacknowledged : Type 0 where
   pub writes : ℕ
   pub written : ℕ
   pub due : Bool
-
--- The answer to a command: the command's channel and its number as it came, and the sent time of its datagram, 0 where that
--- had none.
-pub record Answer : Type 0 where
-  pub channel : ℕ
-  pub number : ℕ
-  pub sent : ℕ
-  pub to_disconnect : Bool
 
 -- a message that the user gave to be sent
 pub record Given : Type 0 where
@@ -83,7 +76,8 @@ given_on channel (g ∷ gs) = if g.channel == channel then g.bytes ∷ given_on 
 
 abbrev pub messages_on : ℕ → List PeerEvent → List (List ℕ)
 messages_on channel [] = []
-messages_on channel (event.Message c number bytes ∷ es) = if c == channel then bytes ∷ messages_on channel es else messages_on channel es
+messages_on channel (event.Message c number bytes ∷ es) =
+    if c == channel then bytes ∷ messages_on channel es else messages_on channel es
 messages_on channel (event.Connected ∷ es) = messages_on channel es
 messages_on channel (event.Closed ∷ es) = messages_on channel es
 messages_on channel (event.PeerClosed ∷ es) = messages_on channel es
@@ -132,7 +126,12 @@ shut r = record r { state = state.Shut; pending = filter (λ a. a.to_disconnect)
 
 -- a command to be written, which wasn't written yet
 abbrev pub fresh : Content → ℕ → ℕ → Unacknowledged
-fresh content channel number = record { order = record { content = content; channel = channel; number = number }; writes = 0; written = 0; due = true }
+fresh content channel number = record {
+  order = record { content = content; channel = channel; number = number };
+  writes = 0;
+  written = 0;
+  due = true;
+}
 
 -- ---- new sides
 

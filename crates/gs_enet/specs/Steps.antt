@@ -14,10 +14,13 @@ use Rattle.gs_enet.specs.Receive.{leaving}
 abbrev pub next_number : PeerRecord → ℕ → ℕ
 next_number r channel = given_count r channel + 1
 
--- The window of a channel is full: a number of it that isn't acknowledged is 256 below the next. (No number is further below.)
+-- The window of a channel is full: a number of it that isn't acknowledged is 256 below the next. (No number is
+-- further below.)
 abbrev pub is_full : PeerRecord → ℕ → Bool
 is_full r channel =
-    list_any (λ (u : Unacknowledged). (u.order.channel == channel) && nat_le (u.order.number + 256) (next_number r channel)) r.unacknowledged
+    list_any
+    (λ (u : Unacknowledged). (u.order.channel == channel) && nat_le (u.order.number + 256) (next_number r channel))
+    r.unacknowledged
     || nat_le last_number (next_number r channel)
 
 -- the control channel stands before channel 0
@@ -60,11 +63,12 @@ closed r = close_if r.state r
 
 -- ---- the next event
 
+abbrev pub first_event : List PeerEvent → Option PeerEvent
+first_event [] = None
+first_event (e ∷ es) = Some e
+
 abbrev pub next_event : PeerRecord → Option PeerEvent
-next_event r = first r.waiting where
-  first : List PeerEvent → Option PeerEvent
-  first [] = None
-  first (e ∷ es) = Some e
+next_event r = first_event r.waiting
 
 abbrev pub telling : List PeerEvent → PeerRecord → PeerRecord
 telling [] r = r
@@ -106,3 +110,7 @@ timed_at r = timed_if (is_shut r.state) (find (is_lost r.now) r.unacknowledged) 
 
 unfoldable pub timed : ℕ → PeerRecord → PeerRecord
 timed now r = timed_at (at_moment now r)
+
+-- the channel and the number by which a command is named
+abbrev pub name_of : Unacknowledged → ℕ × ℕ
+name_of u = (u.order.channel, u.order.number)

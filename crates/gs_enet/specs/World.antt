@@ -55,7 +55,10 @@ acted Close s = record s { peer = closed s.peer }
 acted Tell s = record s { peer = told_next s.peer }
 acted (Time now) s = record s { peer = timed now s.peer }
 acted (Write now) s =
-    record { peer = wrote_next now s.peer; wrote = s.wrote ++ one_written (at_moment now s.peer) (next_items (at_moment now s.peer)) }
+    record {
+      peer = wrote_next now s.peer;
+      wrote = s.wrote ++ one_written (at_moment now s.peer) (next_items (at_moment now s.peer));
+    }
 
 abbrev pub came : Option Written → ℕ → Side → Side
 came None now s = s
@@ -82,24 +85,30 @@ opened_by (Client own connect_id extra now) = connecting own connect_id extra no
 opened_by (Host own other connect_id now) = accepting own other connect_id now
 
 abbrev pub start : Opening → Opening → World
-start left right = record { left = record { peer = opened_by left; wrote = [] }; right = record { peer = opened_by right; wrote = [] } }
+start left right = record {
+  left = record { peer = opened_by left; wrote = [] };
+  right = record { peer = opened_by right; wrote = [] };
+}
 
 -- ---- near numbers
 
--- The message that an answer with these 16 bits is to: the last one with them that its side had heard of, by the count then.
+-- The message that an answer with these 16 bits is to: the last one with them that its side had heard of, by the
+-- count then.
 abbrev pub answered : ℕ → ℕ → ℕ
 answered count number = count - (count + 65536 - number) % 65536
 
 abbrev pub IsNearOrder : PeerRecord → Content → ℕ → ℕ → Type 0
-IsNearOrder r (Message bytes) channel number = (number ≤ expected r channel + 32767) × (expected r channel ≤ number + 32767)
+IsNearOrder r (Message bytes) channel number =
+    (number ≤ expected r channel + 32767) × (expected r channel ≤ number + 32767)
 IsNearOrder r Connect channel number = Unit {0}
 IsNearOrder r VerifyConnect channel number = Unit {0}
 IsNearOrder r Disconnect channel number = Unit {0}
 
--- A message's number differs by at most 32,767 from the one that its reader expects. The number that an answer to a message
--- is to is at most 32,767 below its reader's next.
+-- A message's number differs by at most 32,767 from the one that its reader expects. The number that an answer to a
+-- message is to is at most 32,767 below its reader's next.
 abbrev pub IsNearItem : PeerRecord → PeerRecord → Item → Type 0
-IsNearItem by r (Answers a) = a.channel < channels → next_number r a.channel ≤ answered (heard_count by a.channel) a.number + 32767
+IsNearItem by r (Answers a) =
+    a.channel < channels → next_number r a.channel ≤ answered (heard_count by a.channel) a.number + 32767
 IsNearItem by r (Orders o) = IsNearOrder r o.content o.channel o.number
 
 -- all of a datagram, item after item

@@ -5,7 +5,8 @@ use Rattle.gs_enet_wire.specs.declared.command.Command.{Command}
 use Rattle.gs_enet_wire.specs.declared.command.Command.TheVariants as command
 use Rattle.gs_enet_wire.specs.declared.datagram.Datagram.{Datagram}
 use Rattle.gs_enet_wire.specs.Grammar.{command_spelling}
-use Rattle.gs_enet.specs.Record.{PeerRecord, Content, Connect, VerifyConnect, Disconnect, Message, Order, Unacknowledged, Answer, control, is_shut, at_moment}
+use Rattle.gs_enet.specs.declared.answer.Answer.{Answer}
+use Rattle.gs_enet.specs.Record.{PeerRecord, Content, Connect, VerifyConnect, Disconnect, Message, Order, Unacknowledged, control, is_shut, at_moment}
 
 -- ---- commands on the wire
 
@@ -41,7 +42,8 @@ connect_command r number =
     })
 
 abbrev pub verify_command : PeerRecord → ℕ → Command
-verify_command r number = command.VerifyConnect control (wire_number number) true r.own 0 0 1392 65536 48 0 0 5000 2 2 r.connect_id
+verify_command r number =
+    command.VerifyConnect control (wire_number number) true r.own 0 0 1392 65536 48 0 0 5000 2 2 r.connect_id
 
 abbrev pub order_command : Content → ℕ → ℕ → PeerRecord → Command
 order_command Connect channel number r = connect_command r number
@@ -72,7 +74,9 @@ due_if false us = filter is_due us
 
 -- what is to be written, in order: the answers, then the commands
 abbrev pub going_out : PeerRecord → List Item
-going_out r = map Answers r.pending ++ map (λ (u : Unacknowledged). Orders u.order) (due_if (is_shut r.state) r.unacknowledged)
+going_out r =
+    map Answers r.pending
+    ++ map (λ (u : Unacknowledged). Orders u.order) (due_if (is_shut r.state) r.unacknowledged)
 
 -- the longest front that fits into that many bytes
 abbrev pub fitting : PeerRecord → ℕ → List Item → List Item
@@ -93,12 +97,16 @@ written_once now u = record u { writes = u.writes + 1; written = now; due = fals
 abbrev pub first_written : ℕ → ℕ → List Unacknowledged → List Unacknowledged
 first_written now n [] = []
 first_written now zero (u ∷ us) = u ∷ us
-first_written now (suc n) (u ∷ us) = if u.due then written_once now u ∷ first_written now n us else u ∷ first_written now (suc n) us
+first_written now (suc n) (u ∷ us) =
+    if u.due then written_once now u ∷ first_written now n us else u ∷ first_written now (suc n) us
 
 -- so many of what was to be written is written: answers first, then commands
 abbrev pub having_written : ℕ → PeerRecord → PeerRecord
 having_written n r =
-    record r { pending = drop n r.pending; unacknowledged = first_written r.now (n - length r.pending) r.unacknowledged }
+    record r {
+      pending = drop n r.pending;
+      unacknowledged = first_written r.now (n - length r.pending) r.unacknowledged;
+    }
 
 -- the side after it has written its next datagram at that moment
 unfoldable pub wrote_next : ℕ → PeerRecord → PeerRecord
@@ -112,7 +120,12 @@ address (Some other) = other % 4096
 address None = 4095
 
 abbrev pub datagram_of : PeerRecord → List Item → Datagram
-datagram_of r items = record { peer = address r.other; session = 0; sent = Some (r.now % 65536); commands = map (item_command r) items }
+datagram_of r items = record {
+  peer = address r.other;
+  session = 0;
+  sent = Some (r.now % 65536);
+  commands = map (item_command r) items;
+}
 
 abbrev pub datagram_if : PeerRecord → List Item → Option Datagram
 datagram_if r [] = None

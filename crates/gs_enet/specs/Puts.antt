@@ -1,0 +1,10 @@
+-- Cited by private contracts alone: a command that is written if it fits into a datagram.
+use Rattle.std.specs.Prelude.{ℕ, ◌≡◌, ◌≤◌, ◌<◌, ◌+◌, List, length, Option, Some, None}
+use Rattle.gs_enet_wire.specs.declared.command.Command.{Command}
+use Rattle.gs_enet_wire.specs.Grammar.{command_spelling, all_fields, Fit}
+use Rattle.gs_enet_wire.specs.Writing.{Puts}
+
+abbrev pub PutsIfFits : Command → ℕ → Option ℕ → List ℕ → List ℕ → Type 0
+PutsIfFits c place None before after = (1392 < place + length (command_spelling c)) × (after ≡ before)
+PutsIfFits c place (Some end) before after = (end ≤ 1392) × Puts (command_spelling c) place end before after
+    × Fit (all_fields c)

@@ -1,0 +1,74 @@
+//! A message that isn't acknowledged yet.
+
+ghost use Rattle.std.specs.Prelude.{◌≡◌, ◌≤◌, true, length, min, ◌*◌, ◌-◌, ◌^◌};
+
+use crate::writing::DATAGRAM;
+use gs_bytes::Text;
+use gs_enet_wire::write_reliable;
+
+/// The most writings of one command.
+pub const MOST_WRITES: u8 = 13;
+/// How long the first writing of a command waits for its acknowledgement, and the longest wait, in
+/// milliseconds.
+const FIRST_WAIT: u32 = 500;
+
+const LONGEST_WAIT: u32 = 4000;
+/// The bytes of a message on the wire, without its data.
+const RELIABLE: usize = 6;
+
+/// How long the n-th writing of a command waits for its acknowledgement, in milliseconds.
+pub fn wait_after(writes: u8) -> u32
+    ensures { result ≡ min 4000 (500 * 2 ^ (writes - 1)) }
+{
+    match writes {
+        0 | 1 => FIRST_WAIT,
+        2 => 2 * FIRST_WAIT,
+        3 => 4 * FIRST_WAIT,
+        _ => LONGEST_WAIT,
+    }
+}
+
+/// A message, how often and when it was written, and whether it is to be written.
+#[derive(Drop)]
+pub struct Held {
+    pub bytes: Text,
+    pub writes: u8,
+    pub written: u32,
+    pub due: bool,
+    ghost short: { length bytes ≤ 1024 },
+    ghost few: { writes ≤ 13 },
+    ghost again: { due ≡ true → writes ≤ 12 },
+}
+
+impl Held {
+    ghost use Rattle.gs_enet_wire.specs.declared.command.Command.TheVariants.{Reliable};
+    ghost use Rattle.gs_enet.specs.Window.{held_waited, held_lost};
+    ghost use Rattle.gs_enet.specs.Puts.{PutsIfFits};
+
+    /// Whether the message was written and its wait has passed.
+    pub fn has_waited(&self, now: u32) -> bool
+        ensures { result ≡ held_waited now self.now }
+    {
+        !self.due && u64::from(self.written) + u64::from(wait_after(self.writes)) <= u64::from(now)
+    }
+
+    /// Whether the message had its last wait.
+    pub fn is_lost(&self, now: u32) -> bool
+        ensures { result ≡ held_lost now self.now }
+    {
+        self.has_waited(now) && self.writes >= MOST_WRITES
+    }
+
+    /// Writes the message as one of that channel and number from the place on, if it fits, and
+    /// answers the place behind it.
+    pub fn put(&self, channel: u8, number: u16, out: &mut [u8], place: usize) -> Option<usize>
+        requires room { 1392 ≤ length out.old }
+        requires place { place ≤ 1392 }
+        ensures { PutsIfFits (Reliable channel number true self.now.bytes) place result out.old out.new }
+    {
+        if place + RELIABLE + self.bytes.len() > DATAGRAM {
+            return None;
+        }
+        Some(write_reliable(out, place, channel, number, self.bytes.as_bytes()))
+    }
+}

@@ -1,0 +1,97 @@
+//! One side of a connection.
+
+ghost use Rattle.std.specs.Prelude.{◌≡◌, ◌≤◌, ◌<◌, ◌+◌, false, IfOk, vec_len};
+ghost use Rattle.std.specs.VecDeque.{deque_len, deque_capacity};
+ghost use Rattle.gs_enet.specs.Record.{is_shut};
+ghost use Rattle.gs_enet.specs.Controls.{has_left};
+ghost use Rattle.gs_enet.specs.Busy.{AreIdle};
+
+use crate::answer::Answer;
+use crate::busy::Busy;
+use crate::channel::Channel;
+use crate::control::{Control, ControlKind};
+use crate::new_channels::new_channels;
+use crate::{PeerEvent, PeerState};
+use gs_bytes::OutOfMemory;
+use gs_enet_wire::Connect;
+use std::alloc::Global;
+use std::collections::VecDeque;
+
+/// One side of a connection. It reads and writes datagrams, and looks at no clock.
+#[derive(Drop)]
+pub struct Peer {
+    pub(crate) state: PeerState,
+    pub(crate) own: u16,
+    pub(crate) other: Option<u16>,
+    pub(crate) connect_id: u32,
+    pub(crate) extra: Option<u32>,
+    pub(crate) moment: u32,
+    pub(crate) disconnected: bool,
+    pub(crate) last_control: u16,
+    pub(crate) control: Option<Control>,
+    pub(crate) channels: Vec<Channel>,
+    pub(crate) busy: Busy,
+    pub(crate) waiting: VecDeque<PeerEvent>,
+    pub(crate) pending: VecDeque<Answer>,
+    ghost all: { vec_len channels ≡ 48 },
+    ghost idle: { AreIdle busy.from busy.to channels.items },
+    // The loss of the connection can always be told.
+    ghost room: { is_shut state ≡ false → deque_len waiting + 1 ≤ deque_capacity waiting },
+    // The disconnect is the second command of the control channel.
+    ghost counted: { has_left state control ≡ false → last_control ≡ 1 },
+}
+
+impl Peer {
+    ghost use Rattle.gs_enet.specs.Record.{connecting, accepting};
+    ghost use Rattle.gs_enet.specs.Standing.{StandsFor};
+
+    /// The client's side: it asks for a connection with its own id, an id of the connection and the
+    /// data of the request.
+    pub fn connect(
+        alloc: Global,
+        own: u16,
+        connect_id: u32,
+        extra: u32,
+        now: u32,
+    ) -> Result<Peer, OutOfMemory>
+        ensures { IfOk result (λ peer. StandsFor peer (connecting own connect_id extra now)) }
+    {
+        Ok(Peer {
+            state: PeerState::Connecting,
+            own,
+            other: None,
+            connect_id,
+            extra: Some(extra),
+            moment: now,
+            disconnected: false,
+            last_control: 1,
+            control: Some(Control::new(ControlKind::Connect, 1)),
+            channels: new_channels(alloc)?,
+            busy: Busy::none(),
+            waiting: VecDeque::with_capacity(alloc, 2)?,
+            pending: VecDeque::new(alloc),
+        })
+    }
+
+    /// The host's side: it answers a request for a connection.
+    pub fn accept(alloc: Global, own: u16, connect: &Connect, now: u32) -> Result<Peer, OutOfMemory>
+        ensures { IfOk result (λ peer.
+            StandsFor peer (accepting own connect.now.peer connect.now.connect_id now)) }
+    {
+        Ok(Peer {
+            state: PeerState::Accepting,
+            own,
+            other: Some(connect.peer),
+            connect_id: connect.connect_id,
+            extra: None,
+            moment: now,
+            disconnected: false,
+            last_control: 1,
+            control: Some(Control::new(ControlKind::VerifyConnect, 1)),
+            channels: new_channels(alloc)?,
+            busy: Busy::none(),
+            waiting: VecDeque::with_capacity(alloc, 2)?,
+            pending: VecDeque::new(alloc),
+        })
+    }
+}
