@@ -1,0 +1,4 @@
+pub mod Seats
+pub mod Seating
+pub mod Routing
+pub mod Lending

@@ -1,0 +1,131 @@
+//! The hub: its peers by key.
+
+ghost use Rattle.std.specs.Prelude.{ℕ, ◌≡◌, ◌≢◌, ◌⊎◌, None, Ok, Err, IfOk, IfErr, OnErr};
+ghost use Rattle.std.specs.Option.{option_copied_mut};
+ghost use Rattle.std.specs.Borrow.{sem};
+ghost use Rattle.gs_enet_wire.specs.declared.datagram.Datagram.{Datagram};
+ghost use Rattle.gs_enet_wire.specs.Grammar.{Spells, IsFaultAt};
+ghost use Rattle.gs_enet_hub.specs.Routing.{Routes, IsRouteFault, RoutesOther};
+ghost use Rattle.gs_enet_hub.specs.declared.route_error.RouteError.TheVariants as route_error;
+
+use crate::RouteError;
+use crate::seat::{Seat, empty_seats, seat_at};
+use gs_bytes::{Addr, OutOfMemory};
+use gs_enet::Peer;
+use gs_enet_wire::{Command, Connect, Datagram, WireError, read};
+use slab::Slab;
+use std::alloc::Global;
+use std::marker::Model;
+
+/// The id of datagrams to no peer.
+const NOBODY: u16 = 4095;
+
+/// Up to 16 peers, each under a key from 0 to 15.
+#[derive(Drop)]
+pub struct Hub {
+    pub(crate) seats: Vec<Option<Seat>>,
+    pub(crate) peers: Slab<Peer>,
+}
+
+impl Model for Hub {
+    ghost use Rattle.gs_enet_hub.specs.Seating.{Seating, IsSeating};
+
+    ghost Value = { Seating };
+
+    ghost view = { λ hub. record { seats = hub.seats.items; peers = hub.peers } };
+
+    ghost invariant = { λ hub. IsSeating hub.seats.items hub.peers };
+}
+
+impl Hub {
+    ghost use Rattle.gs_enet.specs.declared.peer.Peer.{Peer};
+    ghost use Rattle.gs_enet_hub.specs.Routing.{IsLive};
+    ghost use Rattle.gs_enet_hub.specs.Seating.{member, peer_of, with_peer, PutsPeer, SameMembers};
+    ghost use Rattle.gs_enet_hub.specs.Lending.{LendsPeer};
+
+    /// A hub without connections.
+    pub fn new(alloc: Global) -> Result<Hub, OutOfMemory>
+        ensures { IfOk result (λ hub. (key : ℕ) → member hub key ≡ None) }
+    {
+        Ok(Hub {
+            seats: empty_seats(alloc)?,
+            peers: Slab::new(alloc),
+        })
+    }
+
+    /// The key of the peer that a datagram from that address is for. Its caller hands the datagram on.
+    ///
+    /// A connect datagram, which is one to id 4095 whose first command is CONNECT, is for the connection
+    /// with that address and connect id. Where there is none, a peer is made, under the least key that isn't
+    /// live. Any other datagram is for the key that it is addressed to, where that is live and its other
+    /// side has that address.
+    ///
+    /// After an error the connections are as before. `BadDatagram` has the place of the first fault, by the
+    /// grammar of datagrams. `NoPeer` says that the datagram asks for no connection and is for none, and
+    /// `HubFull` that it asks for a new one while 16 live.
+    pub fn route(&mut self, from: Addr, datagram: &[u8], now: u32) -> Result<usize, RouteError>
+        ensures routed { (d : Datagram) → Spells datagram.now d → Routes d from now self.old result self.new }
+        ensures same { OnErr result (SameMembers self.old self.new) }
+        ensures bad { IfErr result (IsRouteFault datagram.now) }
+        ensures bad_only { (place : ℕ) → IsFaultAt datagram.now place
+            → (result ≡ Err (route_error.BadDatagram place)) ⊎ (result ≡ Err route_error.OutOfMemory) }
+    {
+        let datagram = match read(*self.seats.allocator(), datagram) {
+            Ok(datagram) => datagram,
+            Err(WireError::BadDatagram(place)) => return Err(RouteError::BadDatagram(place)),
+            Err(WireError::OutOfMemory) => return Err(RouteError::OutOfMemory),
+        };
+        match request_of(&datagram) {
+            Some(connect) => self.join(from, &connect, now),
+            None => self.find(from, datagram.peer),
+        }
+    }
+
+    /// The key, where it is live and its other side has that address.
+    fn find(&self, from: Addr, id: u16) -> Result<usize, RouteError>
+        ensures { RoutesOther id from self.now result self.now }
+    {
+        match seat_at(&self.seats, usize::from(id)) {
+            Some(seat) if seat.from == from => Ok(usize::from(id)),
+            _ => Err(RouteError::NoPeer),
+        }
+    }
+
+    /// The peer of a key; none exactly where the key isn't live.
+    pub fn peer(&mut self, key: usize) -> Option<&mut Peer>
+        ensures* lent { sem 𝓛 (LendsPeer self.entry key result) }
+        ensures value { option_copied_mut result ≡ peer_of (member self.old key) }
+        // What is left behind the reference is the peer of that key alone.
+        ensures puts { (peer : Peer) → IsLive self.old key → PutsPeer self.old (with_peer self.old key peer) key peer }
+    {
+        let place = match seat_at(&self.seats, key) {
+            Some(seat) => seat.place,
+            None => self.peers.capacity(),
+        };
+        self.peers.get_mut(place)
+    }
+
+    /// Takes out the peer of a key, which is no longer live; none exactly where it isn't live.
+    pub fn remove(&mut self, key: usize) -> Option<Peer>
+        ensures value { result ≡ peer_of (member self.old key) }
+        ensures free { member self.new key ≡ None }
+        ensures others { (k : ℕ) → k ≢ key → member self.new k ≡ member self.old k }
+    {
+        let seat = seat_at(&self.seats, key)?;
+        self.seats[key] = None;
+        self.peers.try_remove(seat.place)
+    }
+}
+
+/// The request of a connect datagram.
+fn request_of(datagram: &Datagram) -> Option<Connect>
+    ensures { result ≡ Rattle.gs_enet_hub.specs.Routing.request_of datagram.now }
+{
+    if datagram.peer != NOBODY {
+        return None;
+    }
+    match datagram.commands.as_slice().first() {
+        Some(Command::Connect(connect)) => Some(*connect),
+        _ => None,
+    }
+}
