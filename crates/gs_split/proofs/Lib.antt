@@ -1,0 +1,12 @@
+pub mod Counts
+pub mod Blocks
+pub mod Places
+pub mod Payloads
+pub mod LaidShards
+pub mod DataShards
+pub mod WrittenBlocks
+pub mod FrameShards
+pub mod PlannedFrames
+pub mod WrittenFrames
+pub mod Carried
+pub mod CountsAgree

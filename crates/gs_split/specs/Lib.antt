@@ -1,0 +1,4 @@
+pub mod Plans
+pub mod Places
+pub mod Loaded
+pub mod Splitting
