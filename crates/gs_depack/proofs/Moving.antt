@@ -22,7 +22,7 @@ use Rattle.gs_frames.proofs.HandedThrough.{through-zero, through-same, RisesTo, 
 use Rattle.gs_frames.proofs.HandedGrows.{handed-is, arrival_hands, reset_hands_nothing}
 use Rattle.gs_frames.proofs.AsksGrow.{arrival_asks_for_lost, arrival_asks_for_nothing}
 use Rattle.gs_depack.specs.declared.depack.Depack.{Depack}
-use Rattle.gs_depack.specs.declared.moved.Moved.{Moved}
+use Rattle.gs_fecqueue.specs.declared.moved.Moved.{Moved}
 use Rattle.gs_depack.specs.Depack.{noted_kind, HasNoneAbove, IsUnnoted, Handing, StandsFor, IsMove}
 use Rattle.gs_depack.specs.Steps.{IsAdvance, Leaves, LeavesNone}
 use Rattle.gs_depack.proofs.Standing.{Settling, kind-none, settled-is_so, front-same}

@@ -249,6 +249,7 @@ pub next-none : (d : Depack) (c : ClientSettings) (came : List Arrival) (unnoted
 next-none d c came unnoted given stands all =
     let passed : d.passed ≡ d.settled = omega (arith, stands.passed_settled) in
     record {
+      all_passed = passed;
       all = λ e.
           let noted = subst (λ (u : Option ℕ). Handing d c came u given) e stands in
           let is_all : given ≡ handed c came =

@@ -1,7 +1,7 @@
 -- What a depack knows of all that its client was given.
 use Rattle.std.specs.Prelude.{ℕ, suc, ◌≡◌, ◌+◌, ◌-◌, ◌%◌, ◌<◌, ◌≤◌, ◌⊎◌, List, [], ◌∷◌, ◌++◌, Option, Some, None, slice_index, ◌==◌, if◌then◌else◌}
 use Rattle.gs_depack.specs.declared.depack.Depack.{Depack}
-use Rattle.gs_depack.specs.declared.moved.Moved.{Moved}
+use Rattle.gs_fecqueue.specs.declared.moved.Moved.{Moved}
 use Rattle.gs_frames.specs.Client.{ClientSettings, Arrival, Datagram}
 use Rattle.gs_frames.specs.Received.{Received, IsReceived, taken, greatest}
 use Rattle.gs_frames.specs.Complete.{complete, IsComplete}
@@ -56,21 +56,23 @@ pub record StandsFor (d : Depack) (c : ClientSettings) (came : List Arrival) : T
   pub all_passed : d.passed ≡ d.settled
 
 -- The next frame to hand was handed behind the others: it is complete.
-pub record HandsNext (d : Depack) (c : ClientSettings) (came : List Arrival) (unnoted : Option ℕ) (given : List Handed) (frame : ℕ)
-    : Type 0 where
+pub record HandsNext (d : Depack) (c : ClientSettings) (came : List Arrival) (unnoted : Option ℕ) (given : List Handed)
+    (frame : ℕ) : Type 0 where
   pub one : Handed
   pub is_frame : one.frame ≡ frame
   pub is_complete : IsComplete c (taken c came) frame (record { kind = one.kind; unit = one.unit })
   pub stands : Handing d c came unnoted (given ++ one ∷ [])
 
--- No settled frame waits to be handed. Where all was noted, those handed are all.
+-- No settled frame waits to be handed: each was handed or passed by. Where all was noted, those handed are all.
 pub record HandsNone (d : Depack) (c : ClientSettings) (came : List Arrival) (unnoted : Option ℕ) (given : List Handed)
     : Type 0 where
+  pub all_passed : d.passed ≡ d.settled
   pub all : unnoted ≡ None → (given ≡ handed c came) × StandsFor d c came
   pub stands : Handing d c came unnoted given
 
 -- a datagram of a greater frame than all before it, as a depack is told of it
-pub record IsMove (moved : Moved) (c : ClientSettings) (came : List Arrival) (bytes : List ℕ) (r : Received) : Type 0 where
+pub record IsMove (moved : Moved) (c : ClientSettings) (came : List Arrival) (bytes : List ℕ) (r : Received)
+    : Type 0 where
   pub is_received : IsReceived c.stream bytes r
   pub from : moved.from ≡ greatest (taken c came)
   pub to : moved.to ≡ r.head.frame

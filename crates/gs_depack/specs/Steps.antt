@@ -12,7 +12,7 @@ pub record Puts (before now : Depack) (frame kind : ℕ) : Type 0 where
   pub other_frames : (i : ℕ) → i < 4 → i ≢ frame % 4 → slice_index now.frames i ≡ slice_index before.frames i
   pub other_kinds : (i : ℕ) → i < 4 → i ≢ frame % 4 → slice_index now.kinds i ≡ slice_index before.kinds i
 
--- a greater frame is the greatest: nothing is noted above the one before it, and what was noted of the newest four stays
+-- a greater frame is the greatest: nothing is noted above the one before it, and what was of the newest four stays
 pub record IsAdvance (before now : Depack) (to : ℕ) : Type 0 where
   pub rest : now ≡ record before { greatest = to; newest = None; frames = now.frames; kinds = now.kinds }
   pub none_above : HasNoneAbove now

@@ -11,7 +11,7 @@ ghost use Rattle.gs_frames.specs.KeptLaws.{is_handed_next};
 ghost use Rattle.gs_depack.specs.Depack.{noted_kind, HasNoneAbove, Handing, StandsFor, HandsNext, HandsNone, IsMove};
 ghost use Rattle.gs_depack.specs.Steps.{Puts, IsAdvance, IsNote, IsSettled, Leaves, LeavesNone};
 
-use crate::moved::Moved;
+use gs_fecqueue::Moved;
 use gs_frames::Range;
 
 // How many frames a window has at most.

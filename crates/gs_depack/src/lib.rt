@@ -10,11 +10,9 @@
 mod depack;
 mod image;
 mod laws;
-mod moved;
 #[cfg(test)]
 mod tests;
 
 pub use depack::Depack;
 pub use image::{IMAGE_PACKETS_GREATEST, ImageHead, read_image};
 pub use laws::untold_arrivals;
-pub use moved::Moved;

@@ -1,4 +1,5 @@
-use crate::{Depack, ImageHead, Moved, read_image};
+use crate::{Depack, ImageHead, read_image};
+use gs_fecqueue::Moved;
 use gs_frames::Range;
 
 fn moved(from: u32, to: u32) -> Moved {

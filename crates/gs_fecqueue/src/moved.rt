@@ -1,3 +1,7 @@
+// What a queue answers.
+
+use gs_frames::Added;
+
 /// What a datagram of a greater frame changed: the greatest frame before it, 0 at first, and its own.
 #[derive(Clone, Copy, Debug, PartialEq, Eq)]
 pub struct Moved {
@@ -5,4 +9,11 @@ pub struct Moved {
     pub to: u32,
     /// `whole[i]` says whether each block of frame `from - i` was whole. It is false for a frame that was left before.
     pub whole: [bool; 4],
+}
+
+/// What one more datagram gives: whether its frame is greater than all before it, and the verdict on it.
+#[derive(Clone, Copy, Debug, PartialEq, Eq)]
+pub struct Outcome {
+    pub moved: Option<Moved>,
+    pub what: Added,
 }

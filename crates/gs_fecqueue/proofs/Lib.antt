@@ -1,0 +1,13 @@
+pub mod Counted
+pub mod Payloads
+pub mod Written
+pub mod Restored
+pub mod Taking
+pub mod Frames
+pub mod FrameTaking
+pub mod OtherFrames
+pub mod Places
+pub mod Ready
+pub mod Given
+pub mod Adding
+pub mod Images

@@ -1,0 +1,9 @@
+pub mod Places
+pub mod Holding
+pub mod Steps
+pub mod BlockVerdict
+pub mod FrameHolding
+pub mod Moves
+pub mod Standing
+pub mod QueueSteps
+pub mod QueueLaws

@@ -1,0 +1,30 @@
+// Blocks together.
+
+ghost use Rattle.std.specs.Prelude.{◌≡◌, ◌≤◌, length, All, vec_capacity};
+ghost use Rattle.std.specs.List.{flat_map};
+ghost use Rattle.gs_fecqueue.specs.Holding.{data_of};
+
+use crate::block::Block;
+
+// Forgets what each block holds.
+pub(crate) fn clear_blocks(blocks: &mut [Block])
+    ensures { All (λ block. block.held ≡ 0) blocks.new }
+{
+    'clear: for block in blocks.iter_mut() {
+        block.clear();
+    }
+}
+
+// Writes the payloads of the blocks end to end.
+pub(crate) fn join(blocks: &[Block], size: usize, image: &mut Vec<u8>)
+    requires size { size ≤ 1424 }
+    requires few { length blocks.now ≤ 4 }
+    requires room { 5827008 ≤ vec_capacity image.old }
+    ensures capacity { 5827008 ≤ vec_capacity image.new }
+    ensures joined { image.new.items ≡ flat_map (data_of size) blocks.now }
+{
+    image.clear();
+    'join: for block in blocks {
+        image.extend_from_slice(block.data(size)).unwrap();
+    }
+}
