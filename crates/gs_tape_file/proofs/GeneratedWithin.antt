@@ -50,7 +50,8 @@ between_wider above below below' [] h between = tt
 between_wider above below below' (x ∷ ds) h between =
     let first : x.named < below = between.1 in (between.0, omega arith, between.2, between_wider x.named below below' ds h between.3)
 
-up_to : (t back back' k : ℕ) (x : Drawn (List Delta)) → back' < back → 1 ≤ back' → AreUpTo t back k x.value → AreUpTo t back' (k + 1) (with_delta t back' x).value
+up_to : (t back back' k : ℕ) (x : Drawn (List Delta)) → back' < back → 1 ≤ back' → AreUpTo t back k x.value
+    → AreUpTo t back' (k + 1) (with_delta t back' x).value
 up_to t back back' k x nearer some is = elim (cases_lt back' t) [
   | inl there ↦
       let unit = (unit_from 41000 2000 x.state).value in

@@ -1,2 +1,10 @@
 pub mod Parts
 pub mod GeneratedWithin
+pub mod Streams
+pub mod StepReads
+pub mod ManySteps
+pub mod SameSteps
+pub mod Shrinks
+pub mod TapeReads
+pub mod HeadReads
+pub mod Answered

@@ -52,7 +52,8 @@ unfolding with_delta
 delta_some t back x h = cond-true (nat_lt back t) _ x (lt-ltb back t h)
 
 -- a tick of its parts, each drawn from the state that the one before left
-pub tick_value : (t s s1 s2 : ℕ) (idr : List ℕ) (ds : List Delta) (us : List (List ℕ)) → idr ≡ (unit_from 100000 20000 s).value → s1 ≡ (unit_from 100000 20000 s).state
+pub tick_value : (t s s1 s2 : ℕ) (idr : List ℕ) (ds : List Delta) (us : List (List ℕ)) → idr ≡ (unit_from 100000 20000 s).value
+    → s1 ≡ (unit_from 100000 20000 s).state
     → ds ≡ (deltas t s1).value → s2 ≡ (deltas t s1).state → us ≡ (sounds t s2).value
     → record { number = t; time = (t - 1) * 1000 / 60; idr = idr; deltas = ds; audio = us } ≡ (tick t s).value
 unfolding tick
@@ -60,7 +61,8 @@ tick_value t s s1 s2 idr ds us i i' d d' u =
     let first = unit_from 100000 20000 s in
     let state : s2 ≡ (deltas t first.state).state = d' ∙ ap (λ (k : ℕ). (deltas t k).state) i' in
     let time = (t - 1) * 1000 / 60 in
-    let make : List ℕ → List Delta → List (List ℕ) → Tick = λ (a : List ℕ) (b : List Delta) (c : List (List ℕ)). record { number = t; time = time; idr = a; deltas = b; audio = c } in
+    let make : List ℕ → List Delta → List (List ℕ) → Tick =
+    λ (a : List ℕ) (b : List Delta) (c : List (List ℕ)). record { number = t; time = time; idr = a; deltas = b; audio = c } in
     ap (λ (a : List ℕ). make a ds us) i
     ∙ ap (λ (b : List Delta). make first.value b us) (d ∙ ap (λ (k : ℕ). (deltas t k).value) i')
     ∙ ap (λ (c : List (List ℕ)). make first.value (deltas t first.state).value c) (u ∙ ap (λ (k : ℕ). (sounds t k).value) state)
