@@ -10,12 +10,17 @@ The peers are two small programs, isal_bench and enet_bench, that print lines su
 `isal_encode_73_15: 2767.433 MB/s`. `--peers FOLDER`, or SPEED_PEERS in the environment, names the
 folder in which they stand, or one with their sources isal_bench.c and enet_bench.c: then they are
 built in a temporary folder over libisal-dev and libenet-dev. What is missing is said, and left out.
+
+On a machine that does other work too, `--processor` counts the processor's seconds in place of the
+clock's: those of gsbench, and of isal_bench if the folder has its source, which is then built with the
+process's own clock.
 """
 import argparse
 import os
 import pathlib
 import platform
 import re
+import resource
 import shutil
 import subprocess
 import sys
@@ -27,33 +32,52 @@ LEN = 1376  # bytes of a shard
 LIBRARIES = {"isal_bench": ["-lisal"], "enet_bench": ["-lenet", "-lpthread"]}
 UNITS = {"GB/s": 1e9, "MB/s": 1e6, "messages/s": 1.0}
 
-# name of the row, words before the count, bytes of data each time, and the peer's line
+# name of the row, words before the count, bytes of data each time, and the peer's line or None
 CODES = [(73, 15), (212, 43), (8, 2)]
 WORKLOADS = [("mul_add", ["mul_add", LEN], LEN, "isal_mul_add")]
 for d, p in CODES:
     WORKLOADS.append((f"encode {d} + {p}", ["encode", d, p, LEN], d * LEN, f"isal_encode_{d}_{p}"))
     WORKLOADS.append((f"restore {p} of {d}", ["restore", d, p, LEN, p], d * LEN, f"isal_restore_rows_known_{d}_{p}"))
+# rows of messages and not of bytes: two peers joined in memory, beside two over loopback, which pay for sockets too
+BATCHES = [1, 64]
+MESSAGES = {f"messages by {b}" for b in BATCHES}
+for b in BATCHES:
+    WORKLOADS.append((f"messages by {b}", ["messages", b], 1, f"enet_loopback_batches_of_{b}"))
+WORKLOADS.append(("split 41000", ["split", 1392, 20, 41_000], 41_000, None))
 
 
-def seconds(words):
-    begin = time.perf_counter()
+def clock():
+    return time.perf_counter()
+
+
+def processor():
+    used = resource.getrusage(resource.RUSAGE_CHILDREN)
+    return used.ru_utime + used.ru_stime
+
+
+def seconds(words, now):
+    begin = now()
     subprocess.run([PROGRAM, *map(str, words)], stdout=subprocess.DEVNULL, check=True)
-    return time.perf_counter() - begin
+    return now() - begin
 
 
-def count_for(words, least):
+def count_for(words, least, now):
     """A count that takes about as many seconds."""
     count = 1
-    while (took := seconds([*words, count])) < least / 4:
+    while (took := seconds([*words, count], now)) < least / 4:
         count *= 4
     return max(1, int(count * least / took))
 
 
-def peers_in(folder, built):
-    """The programs of a folder, built first where only their sources are there."""
+def peers_in(folder, built, own_clock):
+    """The programs of a folder, built first where only their sources are there, or with the process's own clock."""
     found = []
     for name, libraries in LIBRARIES.items():
         program, source = folder / name, folder / f"{name}.c"
+        if own_clock and name == "isal_bench" and source.is_file():
+            text = source.read_text().replace("CLOCK_MONOTONIC", "CLOCK_PROCESS_CPUTIME_ID")
+            program, source = built / "none", built / f"{name}.c"
+            source.write_text(text)
         if program.is_file():
             found.append(program)
         elif source.is_file():
@@ -77,31 +101,33 @@ def main():
     words.add_argument("--peers", default=os.environ.get("SPEED_PEERS"), help="folder of the peers or their sources")
     words.add_argument("--rounds", type=int, default=10)
     words.add_argument("--seconds", type=float, default=0.1, help="of each run of a workload")
+    words.add_argument("--processor", action="store_true", help="count the processor's seconds, not the clock's")
     args = words.parse_args()
+    now = processor if args.processor else clock
     if not PROGRAM.exists():
         sys.exit(f"{PROGRAM} is missing: run `rt run` in crates/gsbench first")
     best, peers = {}, {}
     with tempfile.TemporaryDirectory() as built:
-        programs = peers_in(pathlib.Path(args.peers), pathlib.Path(built)) if args.peers else []
+        programs = peers_in(pathlib.Path(args.peers), pathlib.Path(built), args.processor) if args.peers else []
         if not args.peers:
             print("no peers: name their folder by --peers or SPEED_PEERS")
-        counts = {name: count_for(given, args.seconds) for name, given, _, _ in WORKLOADS}
+        counts = {name: count_for(given, args.seconds, now) for name, given, _, _ in WORKLOADS}
         for _ in range(args.rounds):
             for name, given, size, _ in WORKLOADS:
-                more = seconds([*given, counts[name] + 1]) - seconds([*given, 1])
+                more = seconds([*given, counts[name] + 1], now) - seconds([*given, 1], now)
                 best[name] = max(best.get(name, 0), counts[name] * size / more)
             for program in programs:
                 for line, figure in peer_figures(program).items():
                     peers[line] = max(peers.get(line, 0), figure)
-    print(f"{platform.machine()}, shards of {LEN} bytes, best of {args.rounds} rounds, MB of data a second")
+    unit = "processor second" if args.processor else "second"
+    print(f"{platform.machine()}, shards of {LEN} bytes, best of {args.rounds} rounds, MB of data a {unit}")
     print(f"{'workload':<20}{'gsbench':>10}{'peer':>10}{'ratio':>8}")
     for name, _, _, line in WORKLOADS:
         peer = peers.pop(line, None)
-        rest = f"{peer / 1e6:>10.0f}{best[name] / peer:>8.2f}" if peer else f"{'-':>10}{'-':>8}"
-        print(f"{name:<20}{best[name] / 1e6:>10.0f}{rest}")
-    for line, figure in sorted(peers.items()):
-        if line.startswith("enet"):
-            print(f"{line}: {figure:.0f} messages/s")
+        digits = 2 if name in MESSAGES else 0
+        rest = f"{peer / 1e6:>10.{digits}f}{best[name] / peer:>8.2f}" if peer else f"{'-':>10}{'-':>8}"
+        print(f"{name:<20}{best[name] / 1e6:>10.{digits}f}{rest}")
+    print("messages: millions a second; the peer's go through the system's sockets, those of gsbench stay in memory")
 
 
 if __name__ == "__main__":

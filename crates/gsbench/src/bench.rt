@@ -3,7 +3,7 @@
 ghost use Rattle.std.specs.Prelude.{◌<◌, length, IfOk, IsErr};
 
 use crate::report::{Report, Stop};
-use crate::{codes, rows};
+use crate::{codes, frames, messages, receive, rows};
 use std::alloc::Global;
 
 /// Runs the workload that the first word names.
@@ -20,6 +20,12 @@ pub fn bench(alloc: Global, words: &[String]) -> Result<Report, Stop>
         codes::run_parity(alloc, words)
     } else if name == Some(b"restore") {
         codes::run_restore(alloc, words)
+    } else if name == Some(b"messages") {
+        messages::run(alloc, words)
+    } else if name == Some(b"receive") {
+        receive::run(alloc, words)
+    } else if name == Some(b"split") {
+        frames::run_split(alloc, words)
     } else {
         Err(Stop::Usage { word: 1 })
     }
