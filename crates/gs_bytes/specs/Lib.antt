@@ -5,5 +5,6 @@ pub mod Memory
 pub mod NumberForms
 pub mod Numbers
 pub mod Outside
+pub mod Prefix
 pub mod Told
 pub mod Words

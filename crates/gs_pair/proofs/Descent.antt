@@ -23,7 +23,8 @@ use Rattle.gs_frames.specs.Handed.{Handed, is_re_entry, settled_at_resets, is_ba
 use Rattle.gs_frames.specs.Asks.{asks}
 use Rattle.gs_frames.specs.HandedLaws.{handed_below, IsToHand}
 use Rattle.gs_frames.proofs.HandedGrows.{handed_exactly}
-use Rattle.gs_stream.specs.Paired.{IsPrefixOf, invalid_ranges}
+use Rattle.gs_bytes.specs.Prefix.{IsPrefixOf}
+use Rattle.gs_stream.specs.Paired.{invalid_ranges}
 use Rattle.gs_pair.proofs.Valid.{IsFollower, follower, valid_below, valid_is_apart, none_before_idr}
 use Rattle.gs_pair.proofs.Asked.{below_asked}
 use Rattle.gs_pair.proofs.Barred.{below_is, is_below, idr_since, barred_is}

@@ -45,7 +45,8 @@ unit-is settings bytes n ssrc limits some few first kind whole time source =
     rw (first, kind, whole, time, source, started settings.audio some, on_time, long, times.1) refl
 
 -- bytes with these fields are a parity shard's datagram
-parity-is : (settings : StreamSettings) (bytes : List ℕ) (shard k ssrc : ℕ) → AreSettingsWithinLimits settings → settings.audio ≢ 0 → k * 4 < 16777216 → shard < 2
+parity-is : (settings : StreamSettings) (bytes : List ℕ) (shard k ssrc : ℕ) → AreSettingsWithinLimits settings → settings.audio ≢ 0 → k * 4 < 16777216
+    → shard < 2
     → slice_index bytes 0 ≡ 128 → slice_index bytes 1 ≡ 127 → length bytes ≡ 24 + settings.audio
     → slice_index bytes 12 ≡ shard → big_from 16 4 bytes ≡ k * 4 * settings.duration → big_from 8 4 bytes ≡ ssrc
     → IsAudioDatagram settings bytes (record { parity = true; shard = shard; block = k; ssrc = ssrc })

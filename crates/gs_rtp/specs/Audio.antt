@@ -112,5 +112,6 @@ IsAudioDatagram settings bytes head = audio_head settings bytes ≡ Some head
 abbrev pub ReadsBackAudio : Type 0
 ReadsBackAudio =
     (settings : StreamSettings) (h : AudioHead) (shard : List ℕ)
-    → AreSettingsWithinLimits settings → settings.audio ≢ 0 → IsAudioHead h → h.ssrc < 2 ^ 32 → length shard ≡ settings.audio
+    → AreSettingsWithinLimits settings → settings.audio ≢ 0 → IsAudioHead h → h.ssrc < 2 ^ 32
+    → length shard ≡ settings.audio
     → IsAudioDatagram settings (audio_header settings h ++ shard) h

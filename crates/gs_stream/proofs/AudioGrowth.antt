@@ -13,7 +13,7 @@ use Rattle.gs_tape.specs.Tick.{Tick}
 use Rattle.gs_refs.specs.declared.entry.Entry.{Entry}
 use Rattle.gs_rs.specs.Shards.{parity_shard}
 use Rattle.gs_stream.specs.Audio.{audio_units, audio_stream}
-use Rattle.gs_stream.specs.Paired.{IsPrefixOf}
+use Rattle.gs_bytes.specs.Prefix.{IsPrefixOf}
 use Rattle.gs_stream.proofs.Growth.{sounds_only_grow}
 
 range-append : (a n m : ℕ) → range_with_len a (n + m) ≡ range_with_len a n ++ range_with_len (a + n) m

@@ -7,7 +7,8 @@ use Rattle.gs_refs.specs.declared.entry.Entry.{Entry}
 use Rattle.gs_refs.specs.declared.entry.Entry.TheVariants.{Sent, Invalid, IdrAsked, Ended}
 use Rattle.gs_stream.specs.Video.{video_stream}
 use Rattle.gs_stream.specs.Audio.{audio_units}
-use Rattle.gs_stream.specs.Paired.{IsPrefixOf, invalid_ranges}
+use Rattle.gs_bytes.specs.Prefix.{IsPrefixOf}
+use Rattle.gs_stream.specs.Paired.{invalid_ranges}
 
 pub streams_only_grow : (settings : StreamSettings) (ticks : List Tick) (e : Entry) (h : List Entry)
     → IsPrefixOf (video_stream settings ticks h) (video_stream settings ticks (e ∷ h))

@@ -1,6 +1,7 @@
 -- What joins a host's history and what its client was given, without a clock.
-use Rattle.std.specs.Prelude.{ℕ, ◌≡◌, List, [], ◌∷◌, ◌++◌}
+use Rattle.std.specs.Prelude.{ℕ, List, [], ◌∷◌, ◌++◌}
 use Rattle.std.specs.List.{All, Contains}
+use Rattle.gs_bytes.specs.Prefix.{IsPrefixOf}
 use Rattle.gs_tape.specs.Tick.{Tick}
 use Rattle.gs_refs.specs.declared.entry.Entry.{Entry}
 use Rattle.gs_refs.specs.declared.entry.Entry.TheVariants.{Sent, Invalid, IdrAsked, Ended}
@@ -16,9 +17,6 @@ invalid_ranges (Sent tick kind reference ∷ h) = invalid_ranges h
 invalid_ranges (Invalid first last ∷ h) = invalid_ranges h ++ record { first = first; last = last } ∷ []
 invalid_ranges (IdrAsked ∷ h) = invalid_ranges h
 invalid_ranges (Ended first last ∷ h) = invalid_ranges h
-
-abbrev pub IsPrefixOf : {A : Type 0} → List A → List A → Type 0
-IsPrefixOf {A} front all = (rest : List A) × (all ≡ front ++ rest)
 
 -- what a client was given is a datagram of this stream, or a reset
 abbrev pub IsOfStream : List (List ℕ) → Arrival → Type 0

@@ -8,7 +8,7 @@ use Rattle.gs_refs.specs.declared.entry.Entry.TheVariants.{Sent, Invalid, IdrAsk
 use Rattle.gs_refs.specs.History.{frames, tick_of}
 use Rattle.gs_frames.specs.Lone.{FitsOnePacket, lone_datagram}
 use Rattle.gs_stream.specs.Video.{time_of, unit_of, video_stream}
-use Rattle.gs_stream.specs.Paired.{IsPrefixOf}
+use Rattle.gs_bytes.specs.Prefix.{IsPrefixOf}
 
 -- what a history gives begins with what it gave before its newest entry
 abbrev pub OnlyGrows : {A : Type 0} → (List Entry → List A) → Type 0

@@ -33,7 +33,8 @@ returns-in_err-behind_first_line c =
     let by = ap (λ (s : List ℕ). answer_by bytes (head_by status_line_at is_at_most_one s)) (sym c.head_part-front.ensures.part) in
     let begun = answer_started c.in-Ok.line.0 bytes status_line_at is_at_most_one front c.in-Ok.line.1.now c.in-Ok.ensures in
     let p = err_from_is_err_and c.from_residual.result c.from_residual.ensures.1 in
-    rw (p.1, p.2) (err_answered response_message c.in-Ok.line.0 c.in_err-behind_first_line.field-0.0 (answer_by bytes (head_behind tt is_at_most_one c.in-Ok.line.1.now)) _
+    rw (p.1, p.2) (err_answered response_message c.in-Ok.line.0 c.in_err-behind_first_line.field-0.0 (answer_by bytes (head_behind tt is_at_most_one
+    c.in-Ok.line.1.now)) _
     (by ∙ begun) c.in_err-behind_first_line.ensures)
 
 pub returns-in-More : goal.returns-in-More
@@ -42,7 +43,8 @@ returns-in-More c =
     let front = c.head_part-front.result.now in
     let by = ap (λ (s : List ℕ). answer_by bytes (head_by status_line_at is_at_most_one s)) (sym c.head_part-front.ensures.part) in
     let begun = answer_started c.in-Ok.line.0 bytes status_line_at is_at_most_one front c.in-Ok.line.1.now c.in-Ok.ensures in
-    more_answered c.in-Ok.line.0 c.in_ok-behind_first_line.field-0 (answer_by bytes (head_behind tt is_at_most_one c.in-Ok.line.1.now)) _ (by ∙ begun) c.in-More.is
+    more_answered c.in-Ok.line.0 c.in_ok-behind_first_line.field-0 (answer_by bytes (head_behind tt is_at_most_one c.in-Ok.line.1.now)) _ (by ∙ begun)
+    c.in-More.is
     c.in_ok-behind_first_line.ensures
 
 pub returns-in-Whole : goal.returns-in-Whole
