@@ -11,5 +11,6 @@ LineSpellsOneStep = (line : List ℕ) (first second : Step) → Spells line firs
 
 -- two values have different output lines
 abbrev pub LineHasOneOutput : Type 0
-LineHasOneOutput = (first second : Output) → FitsOutputTypes first → FitsOutputTypes second → output_line first ≡ output_line second
+LineHasOneOutput = (first second : Output) → FitsOutputTypes first → FitsOutputTypes second
+    → output_line first ≡ output_line second
     → first ≡ second

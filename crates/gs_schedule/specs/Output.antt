@@ -6,6 +6,7 @@ use Rattle.std.specs.Fmt.{decimal, signed_decimal}
 use Rattle.gs_bytes.specs.Words.{line_of}
 use Rattle.gs_input.specs.Event.{FitsTypes as EventFits, HasButton}
 use Rattle.gs_input.specs.Line.{name_of, arguments_of}
+use Rattle.gs_schedule.specs.Lines.{newline}
 use Rattle.gs_schedule.specs.declared.output.Output.{Output}
 use Rattle.gs_schedule.specs.declared.output.Output.TheVariants.{Sent, Ask, Hand, Play, Invalid, Idr, Ended, Input, Full, Closed, Lost, Reset, Total, Done}
 
@@ -57,4 +58,4 @@ FitsOutputTypes Done = ⊤
 
 -- the words parted by one space, and a newline
 abbrev pub output_line : Output → List ℕ
-output_line output = line_of (output_words output) ++ 10 ∷ []
+output_line output = line_of (output_words output) ++ newline ∷ []

@@ -5,6 +5,7 @@ use Rattle.std.specs.Fmt.{decimal}
 use Rattle.gs_bytes.specs.Words.{words_of}
 use Rattle.gs_input.specs.Event.{IsEvent}
 use Rattle.gs_input.specs.Line.{name_of, arguments_of}
+use Rattle.gs_schedule.specs.declared.limits.TheConstants.{MOST_TIME}
 use Rattle.gs_schedule.specs.declared.step.Step.{Step}
 use Rattle.gs_schedule.specs.declared.step.Step.TheVariants.{Blank, Session, Cap, Send, Video, Audio, Videos, Up, Down, Input, Idr, Time, Pump, Close, Reset}
 
@@ -19,6 +20,10 @@ HasNumbers words name numbers = AllByRecursion (λ n. n < 2 ^ 32) numbers × (wo
 -- the words behind a session's three numbers are those of its window, or none, where it is one frame
 abbrev pub IsWindow : List (List ℕ) → ℕ → Type 0
 IsWindow words window = SpellNumbers words (window ∷ []) ⊎ ((window ≡ 1) × (words ≡ []))
+
+-- the most milliseconds that one step lets pass
+abbrev pub most_time : ℕ
+most_time = MOST_TIME
 
 -- The words that spell a step. A session without its last word has a window of one frame. An event's line is
 -- its own with the session behind its name.
@@ -38,7 +43,7 @@ AreWords words (Down session k) = HasNumbers words (codes "down") (session ∷ k
 AreWords words (Input session event) =
     IsEvent event × (session < 2 ^ 32) × (words ≡ name_of event ∷ decimal session ∷ arguments_of event)
 AreWords words (Idr session) = HasNumbers words (codes "idr") (session ∷ [])
-AreWords words (Time by) = HasNumbers words (codes "time") (by ∷ []) × (by ≤ 60000)
+AreWords words (Time by) = HasNumbers words (codes "time") (by ∷ []) × (by ≤ most_time)
 AreWords words (Pump session every) = HasNumbers words (codes "pump") (session ∷ every ∷ [])
 AreWords words (Close session) = HasNumbers words (codes "close") (session ∷ [])
 AreWords words (Reset session) = HasNumbers words (codes "reset") (session ∷ [])

@@ -5,11 +5,9 @@ ghost use Rattle.std.specs.Io.KnownBytes.{IsAtEnd, Keeps, prepend_known};
 ghost use Rattle.gs_bytes.specs.Outside.{KeepsFlag, Rose, SetsFlag};
 
 use gs_bytes::{Failed, Source};
+use gs_reader::PIECE;
 use std::alloc::{AllocError, Global};
 use std::marker::Model;
-
-/// How many bytes one read asks for.
-const PIECE: usize = 65_536;
 
 /// Bytes that were read and not yet used.
 #[derive(Debug, Drop)]

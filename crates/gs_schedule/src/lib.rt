@@ -21,7 +21,7 @@ mod step;
 mod step_line;
 
 pub use laws::{line_has_one_output, line_spells_one_step};
-pub use limits::MOST_LINE;
+pub use limits::{MOST_LINE, MOST_TIME};
 pub use line::Line;
 pub use lines::Lines;
 pub use lines_error::LinesError;

@@ -8,13 +8,11 @@ ghost use Rattle.gs_schedule.specs.Keyword.{keyword_text};
 ghost use Rattle.gs_schedule.specs.Step.{AreWords, IsBlank, IsWindow, Spells};
 
 use crate::keyword::{Keyword, keyword_of};
+use crate::limits::MOST_TIME;
 use crate::numbers::{next_number, no_number, one_number, three_numbers, two_numbers};
 use crate::step::Step;
 use gs_bytes::{Words, parse_number};
 use gs_input::read_arguments;
-
-/// The most milliseconds that one step lets pass.
-const MOST_TIME: u32 = 60_000;
 
 /// The window of a session whose line has no word for it.
 const ONE_FRAME: u32 = 1;

@@ -304,6 +304,25 @@ fn lines_in_order(rt: HostRuntime) -> Result<(), Fail> {
     Ok(())
 }
 
+// A step that can't be done is told by its line.
+#[test]
+fn the_fifth_line(rt: HostRuntime) -> Result<(), Fail> {
+    let text = b"session 1024 0 0\ncap\nsend 1\nvideo 1 1\nvideo 1 2\n";
+    let mut source = SureSource::new(rt.alloc(), text)?;
+    let mut lines = Lines::new(rt.alloc());
+    for _ in 0..4 {
+        lines.next(&mut source)?.ok_or("a line")?;
+    }
+    let line = lines.next(&mut source)?.ok_or("a line")?;
+    let step = Step::Video { session: 1, k: 2 };
+    assert_eq!(rt; read_line(line.bytes.as_bytes()), Some(step));
+    let status = TrialStatus::BadSchedule { line: line.number };
+    assert_eq!(rt; status.code(), 9);
+    let shown = format!(in rt.alloc(); "{status}")?;
+    assert_eq!(rt; shown.as_str(), "schedule: line 5");
+    Ok(())
+}
+
 // A line of 65 bytes is refused, again and again.
 #[test]
 fn a_long_line(rt: HostRuntime) -> Result<(), Fail> {

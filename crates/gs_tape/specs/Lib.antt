@@ -3,3 +3,11 @@ pub mod Limits
 pub mod Capture
 pub mod Reading
 pub mod Laws
+pub mod Errors
+pub mod Steps
+pub mod Streaming
+pub mod Tape
+pub mod TapeLaws
+pub mod Writer
+pub mod Generated
+pub mod GeneratedLaws

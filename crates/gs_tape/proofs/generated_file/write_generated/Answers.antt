@@ -1,0 +1,36 @@
+use Rattle.std.proofs.Common.{◌≡◌, ◌<◌, ◌∷◌, [], List, length, ap, sym, subst, ◌∙◌, arith}
+use Rattle.gs_tape.specs.Tick.{Tick}
+use Rattle.gs_tape.specs.Capture.{file}
+use Rattle.gs_tape.specs.Generated.{generated, to_come}
+use Rattle.gs_tape.proofs.GeneratedWithin.{generated_is_writable}
+use Rattle.gs_tape.proofs.GeneratedFile.{AreNext, Written, all_next, first_next, others_next, same_faults, written_head, written_on, written_whole}
+use Rattle.gs_tape.proofs.generated_file.write_generated.Goals as goal
+
+pub put-requires : goal.put-requires
+put-requires g c = first_next _ _ _ c.in-Some.tick (rw c.in-Some.is at c.in_ok-tick.ensures.tick) c.ticks.invariant.next
+
+pub ticks-preserved : goal.ticks-preserved
+ticks-preserved g c =
+    let is : to_come c.ticks.generator ≡ c.in-Some.tick ∷ to_come c.next.new.self = rw c.in-Some.is at c.in_ok-tick.ensures.tick in
+    record {
+      next = others_next _ _ _ _ c.in-Some.tick is c.in_ok-put.ensures.writer c.ticks.invariant.next;
+      written = written_on _ _ _ c.in-Some.tick _ _ _ is c.ticks.invariant.written c.in_ok-put.ensures.ok;
+      faults = same_faults _ _ _ _ c.in_ok-put.ensures.counted ∙ c.ticks.invariant.faults;
+    }
+
+pub ticks-init : goal.ticks-init
+ticks-init g c =
+    let is = c.new-generator.ensures in
+    let ts : List Tick = generated c.args.number c.args.ticks in
+    let Next : List Tick → Type 0 = λ l. AreNext c.in_ok-writer.writer l in
+    let Done : List Tick → Type 0 = λ l. Written (file 240 5 ts) l (g.K.Outside.written c.args.out.now) (g.K.Outside.written c.open.new.out) in
+    record {
+      next = subst Next (sym is) (all_next 240 5 ts _ c.in_ok-writer.ensures.writer (generated_is_writable c.args.number c.args.ticks c.requires));
+      written = subst Done (sym is) (written_head 240 5 ts c.in_ok-writer.ensures.ok);
+      faults = same_faults _ _ _ _ c.in_ok-writer.ensures.counted;
+    }
+
+pub returns-clause-ok : goal.returns-clause-ok
+returns-clause-ok g c =
+    written_whole c.end.result _ (to_come c.ticks.generator) _ _ _ (rw c.in_default.is at c.in_ok-tick.ensures.none) c.ticks.invariant.written
+    c.end.ensures.ok

@@ -1,0 +1,41 @@
+//! The file of a capture that a number generates.
+
+ghost use Rattle.std.specs.Prelude.{◌≡◌, ◌≢◌, ◌≤◌, Err, IsErrOf, OnOk};
+ghost use Rattle.std.specs.Io.KnownBytes.{Appends};
+ghost use Rattle.gs_bytes.specs.Outside.{Rose};
+ghost use Rattle.gs_tape.specs.Capture.{file};
+ghost use Rattle.gs_tape.specs.Generated.{generated};
+
+use crate::generator::Generator;
+use crate::write_error::WriteError;
+use crate::writer::TapeWriter;
+use gs_bytes::Sink;
+use std::alloc::Global;
+
+/// The length of an audio unit that a number generates, in bytes.
+const AUDIO: u16 = 240;
+
+/// The duration of an audio unit that a number generates, in milliseconds.
+const DURATION: u8 = 5;
+
+/// Writes the file of the capture that a number generates, with so many ticks. A part of it may have
+/// been written before an error.
+pub fn write_generated<K: Sink>(
+    alloc: Global,
+    number: u32,
+    ticks: u32,
+    out: &mut K,
+) -> Result<(), WriteError>
+    requires { ticks ≤ 2000 }
+    ensures ok { OnOk result (Appends (K.written out.old) (K.written out.new) (file 240 5 (generated number ticks))) }
+    ensures never_falls { K.faults out.old ≤ K.faults out.new }
+    ensures fault { IsErrOf result WriteError.WriteFault → Rose (K.faults out.old) (K.faults out.new) }
+    ensures counted { K.faults out.new ≢ K.faults out.old → result ≡ Err WriteError.WriteFault }
+{
+    let mut generator = Generator::new(number, ticks);
+    let mut writer = TapeWriter::open(alloc, AUDIO, DURATION, out)?;
+    'ticks: while let Some(tick) = generator.next(alloc)? {
+        writer.put(&tick, out)?;
+    }
+    writer.end(out)
+}

@@ -1,9 +1,0 @@
-use Rattle.std.proofs.Common.{ℕ, ◌+◌, ◌%◌, List, [], ◌∷◌, ◌++◌, ap, sym, ◌∙◌}
-use Rattle.gs_tape_file.proofs.Parts.{pattern_more}
-use Rattle.gs_tape_file.proofs.draws.pattern.Goals as goal
-
-pub bytes-preserved : goal.bytes-preserved
-bytes-preserved c =
-    c.in_ok-push.ensures.items
-    ∙ ap (λ (l : List ℕ). l ++ ((c.args.base + c.bytes.i) % 251) ∷ []) c.bytes.invariant
-    ∙ sym (pattern_more c.bytes.i c.args.base)

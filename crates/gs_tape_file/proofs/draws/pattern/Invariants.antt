@@ -1,6 +1,0 @@
-use Rattle.std.proofs.Common.{◌≡◌}
-use Rattle.gs_tape_file.specs.Generated.{pattern}
-use Rattle.gs_tape_file.proofs.draws.pattern.Given as goal
-
-abbrev pub invariant-bytes : goal.invariant-bytes
-invariant-bytes l = l.bytes.items ≡ pattern l.i l.base

@@ -1,5 +1,0 @@
-use Rattle.gs_tape_file.proofs.GeneratedWithin.{generated_is_writable}
-use Rattle.gs_tape_file.proofs.generator.generated_ticks_are_writable.Goals as goal
-
-pub returns : goal.returns
-returns c = generated_is_writable
