@@ -1,0 +1,82 @@
+-- What is played of some datagrams, computed.
+use Rattle.std.proofs.Common.{◌≡◌, ℕ, List, [], ◌∷◌, refl}
+use Rattle.std.specs.List.{slice_get}
+use Rattle.std.specs.Prelude.{Option, Some, None}
+use Rattle.gs_gf256.specs.Field.{product, remainder, polynomial_product, inverse, inverse_below, field_sum}
+use Rattle.gs_poly.specs.Polynomial.{ratio_product}
+use Rattle.gs_rtp.specs.Stream.{StreamSettings}
+use Rattle.gs_rtp.specs.AudioDatagrams.{audio_datagrams}
+use Rattle.gs_audio.specs.Received.{received_audio}
+use Rattle.gs_audio.specs.Played.{PlayedUnit, counting, newly_played, played}
+
+-- units of one byte
+tiny : StreamSettings
+tiny = record { packet = 1024; percentage = 0; minimum = 0; fps = 60; duration = 5; audio = 1; ssrc = 1 }
+
+-- nine units: two whole blocks, and one unit of a third
+abbrev units : List (List ℕ)
+units =
+    (1 ∷ []) ∷ (0 ∷ []) ∷ (0 ∷ []) ∷ (0 ∷ []) ∷ (5 ∷ []) ∷ (6 ∷ []) ∷ (7 ∷ []) ∷ (8 ∷ []) ∷ (9 ∷ []) ∷ []
+
+abbrev bytes_or_none : Option (List ℕ) → List ℕ
+bytes_or_none None = []
+bytes_or_none (Some bytes) = bytes
+
+-- the datagram of this number, from 1
+abbrev sent : ℕ → List ℕ
+sent k = bytes_or_none (slice_get ([] ∷ audio_datagrams tiny units) k)
+
+abbrev unit : ℕ → ℕ → PlayedUnit
+unit number byte = record { number = number; bytes = byte ∷ [] }
+
+first_datagram : sent 1 ≡ 0x80 ∷ 0x61 ∷ 0 ∷ 0 ∷ 0 ∷ 0 ∷ 0 ∷ 0 ∷ 0 ∷ 0 ∷ 0 ∷ 1 ∷ 1 ∷ []
+unfolding tiny
+first_datagram = refl
+
+first_parity :
+    sent 5
+    ≡ 0x80 ∷ 0x7F ∷ 0 ∷ 4 ∷ 0 ∷ 0 ∷ 0 ∷ 0 ∷ 0 ∷ 0 ∷ 0 ∷ 1
+    ∷ 0 ∷ 0x61 ∷ 0 ∷ 0 ∷ 0 ∷ 0 ∷ 0 ∷ 0 ∷ 0 ∷ 0 ∷ 0 ∷ 1 ∷ 0x77 ∷ []
+unfolding tiny field_sum product remainder polynomial_product
+first_parity = refl
+
+-- both parity shards and two units give all four
+restored : played tiny (sent 3 ∷ sent 2 ∷ sent 6 ∷ sent 5 ∷ []) ≡ unit 0 1 ∷ unit 1 0 ∷ unit 2 0 ∷ unit 3 0 ∷ []
+unfolding tiny played newly_played received_audio counting product remainder polynomial_product inverse inverse_below field_sum ratio_product
+restored = refl
+
+-- a fourth shard plays, and neither a repeat before it nor a fifth behind it does
+repeated :
+    played tiny (sent 5 ∷ sent 4 ∷ sent 3 ∷ sent 2 ∷ sent 2 ∷ sent 1 ∷ [])
+    ≡ unit 0 1 ∷ unit 1 0 ∷ unit 2 0 ∷ unit 3 0 ∷ []
+unfolding tiny played newly_played received_audio counting
+repeated = refl
+
+not_yet : newly_played tiny (sent 2) (sent 3 ∷ sent 2 ∷ sent 1 ∷ []) ≡ []
+unfolding tiny played newly_played received_audio counting
+not_yet = refl
+
+-- a block that is left short plays the units that are held, in their order, whether in its time or of a parity shard
+left_short : newly_played tiny (sent 11) (sent 2 ∷ sent 6 ∷ sent 4 ∷ []) ≡ unit 1 0 ∷ unit 3 0 ∷ []
+unfolding tiny played newly_played received_audio counting
+left_short = refl
+
+-- one of which parity alone is held plays nothing, and nothing of it plays later
+left_without_units : played tiny (sent 4 ∷ sent 2 ∷ sent 1 ∷ sent 7 ∷ sent 6 ∷ sent 5 ∷ []) ≡ []
+unfolding tiny played newly_played received_audio counting
+left_without_units = refl
+
+-- nor does a block that was whole, when it is left, nor a last one that stays short
+left_whole :
+    played tiny (sent 13 ∷ sent 4 ∷ sent 3 ∷ sent 2 ∷ sent 1 ∷ [])
+    ≡ unit 0 1 ∷ unit 1 0 ∷ unit 2 0 ∷ unit 3 0 ∷ []
+unfolding tiny played newly_played received_audio counting
+left_whole = refl
+
+-- a datagram of another session changes nothing
+abbrev other : StreamSettings
+other = record { packet = 1024; percentage = 0; minimum = 0; fps = 60; duration = 5; audio = 1; ssrc = 2 }
+
+other_session : played other (sent 4 ∷ sent 3 ∷ sent 2 ∷ sent 1 ∷ []) ≡ []
+unfolding tiny played newly_played received_audio counting
+other_session = refl

@@ -1,0 +1,10 @@
+mod Examples
+pub mod Counted
+pub mod Written
+pub mod LaidShards
+pub mod Sent
+pub mod Ready
+pub mod Restored
+pub mod Rooms
+pub mod Counting
+pub mod Taken
