@@ -1,11 +1,11 @@
 -- Datagrams that aren't of a greater frame, and what all that was handed with one arrival is.
 use Rattle.std.proofs.Common.{◌≡◌, ◌≢◌, ◌<◌, ◌≤◌, ◌+◌, ◌-◌, ℕ, suc, Bool, true, false, ◌||◌, List, [], ◌∷◌, ◌++◌, Option, Some, None, refl, sym, ap, subst, ◌∙◌, arith, inl, inr}
-use Rattle.std.specs.Prelude.{is_some, nat_le}
-use Rattle.std.proofs.lemmas.Bool.{cases_lt, ne_eqb}
+use Rattle.std.specs.Prelude.{is_some, nat_le, nat_lt}
+use Rattle.std.proofs.lemmas.Bool.{cases_Bool, cases_lt, cond-true, cond-false, ltb-true, ne_eqb}
 use Rattle.std.proofs.lemmas.List.{append_cancel_left}
 use Rattle.gs_frames.specs.Client.{ClientSettings, Arrival, Datagram}
 use Rattle.gs_frames.specs.Image.{Frame}
-use Rattle.gs_frames.specs.Received.{Received, IsReceived, greatest, is_left, taken}
+use Rattle.gs_frames.specs.Received.{Received, IsReceived, received, greatest, is_left, taken}
 use Rattle.gs_frames.specs.Complete.{complete}
 use Rattle.gs_frames.specs.Settled.{is_done}
 use Rattle.gs_frames.specs.Handed.{Handed, handed, newly_handed}
@@ -14,9 +14,11 @@ use Rattle.gs_frames.proofs.Counting.{complete-other, greatest-kept}
 use Rattle.gs_frames.proofs.Taken.{taken-some}
 use Rattle.gs_frames.proofs.SettledUp.{done-same, done-stays}
 use Rattle.gs_frames.proofs.HandedGrows.{arrival_hands}
+use Rattle.gs_fecqueue.specs.declared.moved.Moved.{Moved}
+use Rattle.gs_fecqueue.specs.Moves.{moved_to, moved_of}
 use Rattle.gs_depack.specs.declared.depack.Depack.{Depack}
 use Rattle.gs_depack.specs.Depack.{noted_kind, Handing, StandsFor}
-use Rattle.gs_depack.specs.Laws.{DatagramChangesNothing, DatagramCompletesFrame, NothingToNote, HandedSinceIsNewlyHanded, StandingKeepsNumbers}
+use Rattle.gs_depack.specs.Laws.{DatagramChangesNothing, DatagramCompletesFrame, NothingToNote, HandedSinceIsNewlyHanded, StandingKeepsNumbers, MovesOn, QueueTellsMoves}
 use Rattle.gs_depack.proofs.Standing.{settled-is_so, nothing-to_note, front-same}
 use Rattle.gs_depack.proofs.Passing.{next-none}
 
@@ -135,3 +137,32 @@ keeps_numbers d c came stands = record {
   last = stands.handing.last_given;
   waits = stands.handing.waits;
 }
+
+-- ---- what a queue tells
+
+tells-by : (moved : Moved) (c : ClientSettings) (came : List Arrival) (bytes : List ℕ) (o : Option Received) → received c.stream bytes ≡ o
+    → moved_of c (taken c came) o ≡ Some moved → MovesOn moved c came bytes
+tells-by moved c came bytes None is e = let no : None ≡ Some moved = e in cc
+tells-by moved c came bytes (Some r) is e =
+    let rs = taken c came in
+    let test = nat_lt (greatest rs) r.head.frame in
+    let told = moved_to c rs r.head.frame in
+    elim (cases_Bool test) [
+      | inr within ↦ let no : None ≡ Some moved = sym (cond-false test (Some told) None within) ∙ e in cc
+      | inl more ↦
+          let both : Some told ≡ Some moved = sym (cond-true test (Some told) None more) ∙ e in
+          let same : told ≡ moved = cc in
+          let rises : greatest rs < r.head.frame = ltb-true (greatest rs) r.head.frame more in
+          record {
+            r = r;
+            is_move = record {
+              is_received = is;
+              from = ap (λ (m : Moved). m.from) (sym same);
+              to = ap (λ (m : Moved). m.to) (sym same);
+              rises = subst (λ (m : Moved). m.from < m.to) same rises;
+            };
+          }
+    ]
+
+pub queue_tells : QueueTellsMoves
+queue_tells moved c came bytes e = tells-by moved c came bytes (received c.stream bytes) refl e

@@ -1,7 +1,9 @@
 -- How what a depack stands for goes on where it isn't told of a datagram.
 use Rattle.std.specs.Prelude.{ℕ, ◌≡◌, ◌≤◌, true, List, ◌∷◌, ◌++◌, Some, None, is_some}
 use Rattle.gs_depack.specs.declared.depack.Depack.{Depack}
-use Rattle.gs_depack.specs.Depack.{Handing, StandsFor}
+use Rattle.gs_depack.specs.Depack.{Handing, StandsFor, IsMove}
+use Rattle.gs_fecqueue.specs.declared.moved.Moved.{Moved}
+use Rattle.gs_fecqueue.specs.Moves.{moved_by}
 use Rattle.gs_frames.specs.Client.{ClientSettings, Arrival, Datagram}
 use Rattle.gs_frames.specs.Received.{Received, IsReceived, taken, greatest}
 use Rattle.gs_frames.specs.Complete.{complete}
@@ -48,3 +50,14 @@ pub record KeepsNumbers (d : Depack) (state : Kept) : Type 0 where
 abbrev pub StandingKeepsNumbers : Type 0
 StandingKeepsNumbers =
     (d : Depack) (c : ClientSettings) (came : List Arrival) → StandsFor d c came → KeepsNumbers d (kept c came)
+
+-- a datagram that moves the window on
+pub record MovesOn (moved : Moved) (c : ClientSettings) (came : List Arrival) (bytes : List ℕ) : Type 0 where
+  pub r : Received
+  pub is_move : IsMove moved c came bytes r
+
+-- What a queue tells of a datagram is what a depack is to be told.
+abbrev pub QueueTellsMoves : Type 0
+QueueTellsMoves =
+    (moved : Moved) (c : ClientSettings) (came : List Arrival) (bytes : List ℕ) → moved_by c came bytes ≡ Some moved
+    → MovesOn moved c came bytes

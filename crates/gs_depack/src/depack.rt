@@ -11,11 +11,8 @@ ghost use Rattle.gs_frames.specs.KeptLaws.{is_handed_next};
 ghost use Rattle.gs_depack.specs.Depack.{noted_kind, HasNoneAbove, Handing, StandsFor, HandsNext, HandsNone, IsMove};
 ghost use Rattle.gs_depack.specs.Steps.{Puts, IsAdvance, IsNote, IsSettled, Leaves, LeavesNone};
 
-use gs_fecqueue::Moved;
+use gs_fecqueue::{Moved, WINDOW_GREATEST};
 use gs_frames::Range;
-
-// How many frames a window has at most.
-const WINDOW_GREATEST: usize = 4;
 
 const KIND_IDR: u8 = 2;
 
@@ -62,7 +59,7 @@ impl Depack {
     }
 
     // The kind that was noted of a frame.
-    fn kind_of(&self, frame: u32) -> Option<u8>
+    fn noted_as(&self, frame: u32) -> Option<u8>
         ensures { result ≡ noted_kind self.now frame }
     {
         let place = frame as usize % WINDOW_GREATEST;
@@ -112,7 +109,7 @@ impl Depack {
     fn settle(&mut self)
         ensures { IsSettled self.old self.new }
     {
-        'settle: while self.settled < self.greatest && self.kind_of(self.settled + 1).is_some() {
+        'settle: while self.settled < self.greatest && self.noted_as(self.settled + 1).is_some() {
             self.settled += 1;
         }
     }
@@ -184,7 +181,7 @@ impl Depack {
     {
         self.passed += 1;
         let frame = self.passed;
-        let Some(kind) = self.kind_of(frame) else {
+        let Some(kind) = self.noted_as(frame) else {
             return false;
         };
         if !self.is_next(frame, kind) {

@@ -6,9 +6,11 @@ ghost use Rattle.gs_depack.specs.ImageHead.{IsHeadOf};
 
 use byteorder::{ByteOrder, LittleEndian};
 use gs_frames::IMAGE_HEADER_LENGTH;
+use gs_rtp::{LAST_BLOCK_GREATEST, SHARDS_GREATEST};
 
 /// The most payloads of an image.
-pub const IMAGE_PACKETS_GREATEST: usize = 4_092;
+pub const IMAGE_PACKETS_GREATEST: usize = (LAST_BLOCK_GREATEST as usize + 1)
+    * SHARDS_GREATEST as usize;
 
 // The first byte of each image.
 const MARK: u8 = 1;

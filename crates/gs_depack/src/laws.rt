@@ -5,6 +5,7 @@ ghost use Rattle.gs_depack.specs.Laws.{
   DatagramCompletesFrame,
   HandedSinceIsNewlyHanded,
   NothingToNote,
+  QueueTellsMoves,
   StandingKeepsNumbers,
 };
 
@@ -18,4 +19,9 @@ pub fn untold_arrivals()
     ensures no_note { NothingToNote }
     ensures since { HandedSinceIsNewlyHanded }
     ensures numbers { StandingKeepsNumbers }
+{}
+
+/// A law: what a queue tells of a datagram of a greater frame than all before it is what `moved` is to be told.
+pub fn queue_tells_moves()
+    ensures { QueueTellsMoves }
 {}

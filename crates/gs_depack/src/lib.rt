@@ -15,4 +15,4 @@ mod tests;
 
 pub use depack::Depack;
 pub use image::{IMAGE_PACKETS_GREATEST, ImageHead, read_image};
-pub use laws::untold_arrivals;
+pub use laws::{queue_tells_moves, untold_arrivals};

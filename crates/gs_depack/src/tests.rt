@@ -1,6 +1,8 @@
 use crate::{Depack, ImageHead, read_image};
-use gs_fecqueue::Moved;
-use gs_frames::Range;
+use gs_fecqueue::{Moved, Queue};
+use gs_frames::{Added, Range};
+use gs_rtp::Settings;
+use std::test::Fail;
 
 fn moved(from: u32, to: u32) -> Moved {
     Moved {
@@ -139,4 +141,39 @@ fn waits_for_an_idr_frame_after_a_reset(rt: HostRuntime) {
         let want = if handed { Some(frame) } else { None };
         assert_eq!(rt; depack.next(), want);
     }
+}
+
+// A datagram of a frame of one packet, whose image begins with this byte.
+fn whole_frame(frame: u8, mark: u8) -> [u8; 1_040] {
+    let mut bytes = [0; 1_040];
+    bytes[..40].copy_from_slice(&[
+        0x90, 0, 0, 0, 0, 0, 0, 0, 0, 0, 0, 1, 0, 0, 0, 0, 0, 0, 0, 0, frame, 0, 0, 0, 7, 0, 0x10,
+        0, 0, 0, 0x40, 0, mark, 0, 0, 2, 8, 0, 0, 0,
+    ]);
+    bytes
+}
+
+#[test]
+fn asks_for_a_frame_whose_image_is_none(rt: HostRuntime) -> Result<(), Fail> {
+    let settings = Settings::make(1_024, 0, 0, 60, 5, 0, 1).ok_or("settings")?;
+    let mut queue = Queue::new(rt.alloc(), &settings, 1)?;
+    let mut depack = Depack::new(1);
+    // the frame and its mark, whether it is an image, and the range asked for and the frame handed with it
+    let rows = [
+        (1, 2, false, None, None),
+        (2, 1, true, Some(Range { first: 1, last: 1 }), Some(2)),
+    ];
+    for (frame, mark, is_image, ask, handed) in rows {
+        let outcome = queue.add(&whole_frame(frame, mark));
+        assert_eq!(rt; outcome.what, Added::FrameWhole);
+        let moved = outcome.moved.ok_or("moved")?;
+        assert_eq!(rt; depack.moved(&moved), ask);
+        let head = read_image(queue.image(u32::from(frame)), 1_008);
+        assert_eq!(rt; head.is_some(), is_image);
+        if let Some(head) = head {
+            depack.note(u32::from(frame), head.kind);
+        }
+        assert_eq!(rt; depack.next(), handed);
+    }
+    Ok(())
 }

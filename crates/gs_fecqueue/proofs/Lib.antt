@@ -11,3 +11,4 @@ pub mod Ready
 pub mod Given
 pub mod Adding
 pub mod Images
+pub mod AtHand

@@ -17,25 +17,30 @@ ghost use Rattle.std.specs.Prelude.{
   vec_len,
   vec_capacity,
 };
+ghost use Rattle.gs_rtp.specs.Limits.{most_shards_of_block};
 ghost use Rattle.gs_rtp.specs.Stream.{StreamSettings};
 ghost use Rattle.gs_rtp.specs.Video.{parity_count};
 ghost use Rattle.gs_rs.specs.Codeword.{shard_of};
 ghost use Rattle.gs_frames.specs.Received.{Received};
 ghost use Rattle.gs_frames.specs.Complete.{joined_payloads};
 ghost use Rattle.gs_frames.specs.Shards.{payload_of};
+ghost use Rattle.gs_fecqueue.specs.Limits.{most_payload, most_of_block};
 ghost use Rattle.gs_fecqueue.specs.Places.{AreShards, HasFlagsOf, HasPlaced};
 
 use gs_bytes::OutOfMemory;
 use gs_frames::{Added, Shape, Why};
 use gs_rs::Code;
-use gs_rtp::VideoHead;
+use gs_rtp::{PACKET_GREATEST, SHARDS_GREATEST, VideoHead};
 use std::alloc::Global;
 
-// The most shards of a block.
-pub(crate) const SHARDS_GREATEST: usize = 1_023;
+// How much of a packet isn't payload.
+pub(crate) const PACKET_HEADER: usize = 16;
 
 // The most bytes of a shard's payload.
-pub(crate) const PAYLOAD_GREATEST: usize = 1_424;
+pub(crate) const PAYLOAD_GREATEST: usize = PACKET_GREATEST as usize - PACKET_HEADER;
+
+// The most bytes of a block's data.
+pub(crate) const DATA_GREATEST: usize = SHARDS_GREATEST as usize * PAYLOAD_GREATEST;
 
 // What came of a block: a room in which the payloads of its shards stand end to end, those of data shards first.
 // Payloads have one size, which its calls are told. Nothing came where none is held.
@@ -50,10 +55,10 @@ pub(crate) struct Block {
     bytes: Vec<u8>,
     ghost enough: { held ≤ shards },
     ghost counts: { total ≡ shards + parity_count shards percentage },
-    ghost total_greatest: { total ≤ 1023 },
-    ghost flags: { vec_len present ≡ 1023 },
-    ghost reserved: { 1456752 ≤ vec_capacity bytes },
-    ghost room: { total * 1424 ≤ vec_len bytes },
+    ghost total_greatest: { total ≤ most_shards_of_block },
+    ghost flags: { vec_len present ≡ most_shards_of_block },
+    ghost reserved: { most_of_block ≤ vec_capacity bytes },
+    ghost room: { total * most_payload ≤ vec_len bytes },
 }
 
 impl Block {
@@ -71,8 +76,8 @@ impl Block {
             percentage: 0,
             total: 0,
             held: 0,
-            present: no_flags(alloc, SHARDS_GREATEST)?,
-            bytes: Vec::with_capacity(alloc, SHARDS_GREATEST * PAYLOAD_GREATEST)?,
+            present: no_flags(alloc, usize::from(SHARDS_GREATEST))?,
+            bytes: Vec::with_capacity(alloc, DATA_GREATEST)?,
         })
     }
 
@@ -92,7 +97,7 @@ impl Block {
 
     // The payloads of its data shards.
     pub(crate) fn data(&self, size: usize) -> &[u8]
-        requires { size ≤ 1424 }
+        requires { size ≤ most_payload }
         ensures { result.now ≡ data_of size self.now }
     {
         &self.bytes[..usize::from(self.shards) * size]
@@ -101,7 +106,7 @@ impl Block {
     // The verdict on a datagram of it, but for what is whole besides it. `last_block` is its frame's.
     pub(crate) fn take(&mut self, head: &VideoHead, last_block: u8, payload: &[u8]) -> Added
         requires grammar { IsVideoHead head.now }
-        requires size { length payload.now ≤ 1424 }
+        requires size { length payload.now ≤ most_payload }
         ensures verdict { (s : StreamSettings) (held : List Received) (first : Option Received) (r : Received)
             → HoldsBlock s self.old held first → Brings s head.now payload.now r
             → result ≡ block_verdict last_block r held first }
@@ -163,7 +168,7 @@ impl Block {
     // Holds one shard more, and restores the data where as many are held then as there are data shards.
     fn hold(&mut self, index: u16, payload: &[u8]) -> Added
         requires index { index < self.old.total }
-        requires size { length payload.now ≤ 1424 }
+        requires size { length payload.now ≤ most_payload }
         requires more { self.old.held < self.old.shards }
         ensures { (s : StreamSettings) (held : List Received) (first r : Received)
             → IsReady s self.old held first → IsJoined s held first r index payload.now
@@ -181,7 +186,7 @@ impl Block {
     // Holds a shard.
     fn put(&mut self, index: u16, payload: &[u8])
         requires index { index < self.old.total }
-        requires size { length payload.now ≤ 1424 }
+        requires size { length payload.now ≤ most_payload }
         requires more { self.old.held < self.old.shards }
         ensures { IsPut self.old self.new index payload.now }
     {
@@ -193,7 +198,7 @@ impl Block {
 
     // Restores the data shards that aren't held, where as many shards are held as there are of data.
     fn restore(&mut self, size: usize)
-        requires { size ≤ 1424 }
+        requires { size ≤ most_payload }
         ensures kept { KeepsHeld self.old self.new }
         ensures data { (s : StreamSettings) (held : List Received) (first : Received) → payload_of s ≡ size
             → AreShards held first → IsRoomOf self.old held first → ArePlaced s self.old held

@@ -1,16 +1,17 @@
 // A frame: its blocks, and its image where each of them is whole.
 
 ghost use Rattle.std.specs.Prelude.{◌≡◌, ◌≤◌, ◌<◌, IfOk, length, vec_capacity};
+ghost use Rattle.gs_fecqueue.specs.Limits.{most_payload, most_blocks, most_of_image};
 
-use crate::block::{Block, PAYLOAD_GREATEST, SHARDS_GREATEST};
+use crate::block::{Block, DATA_GREATEST};
 use crate::join::{clear_blocks, join};
 use gs_bytes::OutOfMemory;
 use gs_frames::Added;
-use gs_rtp::VideoHead;
+use gs_rtp::{LAST_BLOCK_GREATEST, VideoHead};
 use std::alloc::Global;
 
 // The most blocks of a frame.
-pub(crate) const BLOCKS_GREATEST: usize = 4;
+pub(crate) const BLOCKS_GREATEST: usize = LAST_BLOCK_GREATEST as usize + 1;
 
 // What came of a frame, by its number, 0 where there is none. One block is the image itself; that of several blocks
 // stands beside them.
@@ -20,9 +21,9 @@ pub(crate) struct Frame {
     last_block: u8,
     blocks: [Block; BLOCKS_GREATEST],
     image: Vec<u8>,
-    ghost four: { length blocks ≡ 4 },
-    ghost last: { last_block < 4 },
-    ghost reserved: { 5827008 ≤ vec_capacity image },
+    ghost four: { length blocks ≡ most_blocks },
+    ghost last: { last_block < most_blocks },
+    ghost reserved: { most_of_image ≤ vec_capacity image },
 }
 
 impl Frame {
@@ -58,13 +59,13 @@ impl Frame {
                 Block::new(alloc)?,
                 Block::new(alloc)?,
             ],
-            image: Vec::with_capacity(alloc, BLOCKS_GREATEST * SHARDS_GREATEST * PAYLOAD_GREATEST)?,
+            image: Vec::with_capacity(alloc, BLOCKS_GREATEST * DATA_GREATEST)?,
         })
     }
 
     // Becomes another frame, of which nothing is held.
     pub(crate) fn begin(&mut self, number: u32, last_block: u8)
-        requires { last_block < 4 }
+        requires { last_block < most_blocks }
         ensures { IsBegun self.new number last_block }
     {
         self.number = number;
@@ -75,7 +76,7 @@ impl Frame {
     // The verdict on a datagram of it.
     pub(crate) fn take(&mut self, head: &VideoHead, payload: &[u8]) -> Added
         requires grammar { IsVideoHead head.now }
-        requires size { length payload.now ≤ 1424 }
+        requires size { length payload.now ≤ most_payload }
         ensures number { self.new.number ≡ self.old.number }
         ensures verdict { (s : StreamSettings) (counted : List Received) (first r : Received)
             → HoldsFrame s self.old counted first → r.head.frame ≡ self.old.number → Brings s head.now payload.now r
@@ -92,7 +93,7 @@ impl Frame {
 
     // What the block that became whole makes of its frame.
     fn complete(&mut self, size: usize) -> Added
-        requires { size ≤ 1424 }
+        requires { size ≤ most_payload }
         ensures number { self.new.number ≡ self.old.number }
         ensures holds { (s : StreamSettings) (counted : List Received) (first : Received) → payload_of s ≡ size
             → HoldsBlocks s self.old counted first
@@ -123,7 +124,7 @@ impl Frame {
 
     // Its image, where it is whole.
     pub(crate) fn image(&self, size: usize) -> &[u8]
-        requires { size ≤ 1424 }
+        requires { size ≤ most_payload }
         ensures { result.now ≡ image_held size self.now }
     {
         if self.last_block == 0 {

@@ -3,6 +3,7 @@
 ghost use Rattle.std.specs.Prelude.{◌≡◌, ◌≤◌, length, All, vec_capacity};
 ghost use Rattle.std.specs.List.{flat_map};
 ghost use Rattle.gs_fecqueue.specs.Holding.{data_of};
+ghost use Rattle.gs_fecqueue.specs.Limits.{most_payload, most_blocks, most_of_image};
 
 use crate::block::Block;
 
@@ -17,10 +18,10 @@ pub(crate) fn clear_blocks(blocks: &mut [Block])
 
 // Writes the payloads of the blocks end to end.
 pub(crate) fn join(blocks: &[Block], size: usize, image: &mut Vec<u8>)
-    requires size { size ≤ 1424 }
-    requires few { length blocks.now ≤ 4 }
-    requires room { 5827008 ≤ vec_capacity image.old }
-    ensures capacity { 5827008 ≤ vec_capacity image.new }
+    requires size { size ≤ most_payload }
+    requires few { length blocks.now ≤ most_blocks }
+    requires room { most_of_image ≤ vec_capacity image.old }
+    ensures capacity { most_of_image ≤ vec_capacity image.new }
     ensures joined { image.new.items ≡ flat_map (data_of size) blocks.now }
 {
     image.clear();

@@ -28,7 +28,9 @@ mod queue;
 mod rooms;
 #[cfg(test)]
 mod tests;
+#[cfg(test)]
+mod worked;
 
-pub use laws::reset_changes_nothing;
-pub use moved::{Moved, Outcome};
+pub use laws::{reset_changes_nothing, whole_frame_is_at_hand};
+pub use moved::{Moved, Outcome, WINDOW_GREATEST};
 pub use queue::Queue;

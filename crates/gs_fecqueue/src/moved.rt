@@ -2,13 +2,16 @@
 
 use gs_frames::Added;
 
+/// How many frames a window has at most.
+pub const WINDOW_GREATEST: usize = 4;
+
 /// What a datagram of a greater frame changed: the greatest frame before it, 0 at first, and its own.
 #[derive(Clone, Copy, Debug, PartialEq, Eq)]
 pub struct Moved {
     pub from: u32,
     pub to: u32,
     /// `whole[i]` says whether each block of frame `from - i` was whole. It is false for a frame that was left before.
-    pub whole: [bool; 4],
+    pub whole: [bool; WINDOW_GREATEST],
 }
 
 /// What one more datagram gives: whether its frame is greater than all before it, and the verdict on it.

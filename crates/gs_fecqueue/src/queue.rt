@@ -1,7 +1,9 @@
 // The newest frames, and the window over them.
 
 ghost use Rattle.std.specs.Prelude.{◌≡◌, ◌≤◌, vec_len};
+ghost use Rattle.gs_rtp.specs.Limits.{least_packet, most_packet};
 
+use crate::block::PACKET_HEADER;
 use crate::frame::Frame;
 use crate::moved::{Moved, Outcome};
 use crate::rooms::no_frames;
@@ -9,9 +11,6 @@ use gs_bytes::OutOfMemory;
 use gs_frames::{Added, Why};
 use gs_rtp::{Settings, VideoHead, read_video};
 use std::alloc::Global;
-
-// How much of a packet isn't payload.
-const PACKET_HEADER: u16 = 16;
 
 /// Collects the datagrams of the newest frames of a stream, as many frames as its window. It takes its memory in `new`,
 /// and each shard that comes is copied once, to its place.
@@ -24,8 +23,8 @@ pub struct Queue {
     // An open frame stands at its number modulo the window. In a window of several frames one more stands last: the
     // one whose place the newest took.
     frames: Vec<Frame>,
-    ghost packet_least: { 1024 ≤ packet },
-    ghost packet_greatest: { packet ≤ 1440 },
+    ghost packet_least: { least_packet ≤ packet },
+    ghost packet_greatest: { packet ≤ most_packet },
     ghost window_least: { 1 ≤ window },
     ghost window_greatest: { window ≤ 4 },
     ghost places: { window ≤ vec_len frames },
@@ -39,6 +38,7 @@ impl Queue {
     ghost use Rattle.gs_frames.specs.Received.{Received, taken, is_left};
     ghost use Rattle.gs_frames.specs.Verdict.{counting, judged, verdict};
     ghost use Rattle.gs_frames.specs.VerdictLaws.{image_of};
+    ghost use Rattle.gs_fecqueue.specs.Limits.{most_payload, most_blocks};
     ghost use Rattle.gs_fecqueue.specs.Holding.{Brings};
     ghost use Rattle.gs_fecqueue.specs.Moves.{is_whole_below, moved_behind, moved_by};
     ghost use Rattle.gs_fecqueue.specs.Standing.{is_at_hand, all_but_last, IsAt, IsAmong, IsStanding, StandsFor};
@@ -110,7 +110,7 @@ impl Queue {
     // Takes a datagram of a frame that isn't left.
     fn take(&mut self, head: &VideoHead, payload: &[u8]) -> Outcome
         requires grammar { IsVideoHead head.now }
-        requires size { length payload.now ≤ 1424 }
+        requires size { length payload.now ≤ most_payload }
         ensures { (c : ClientSettings) (before now : List Received) (r : Received)
             → IsStanding self.old c before now → is_left c.window now r.head.frame ≡ false
             → Brings c.stream head.now payload.now r
@@ -127,9 +127,9 @@ impl Queue {
     // How many bytes of a packet are payload.
     fn payload_size(&self) -> usize
         ensures is { result ≡ self.now.packet - 16 }
-        ensures most { result ≤ 1424 }
+        ensures most { result ≤ most_payload }
     {
-        usize::from(self.packet - PACKET_HEADER)
+        usize::from(self.packet) - PACKET_HEADER
     }
 
     // Where a frame stands.
@@ -181,7 +181,7 @@ impl Queue {
 
     // Where the open frame stands, which begins now where nothing of it came before.
     fn begin(&mut self, number: u32, last_block: u8) -> usize
-        requires { last_block < 4 }
+        requires { last_block < most_blocks }
         ensures place { result ≡ number % self.old.window }
         ensures within { result < vec_len self.new.frames }
         ensures opened { IsOpened self.old self.new number last_block }

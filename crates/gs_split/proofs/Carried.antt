@@ -1,18 +1,16 @@
 -- What a datagram carries.
-use Rattle.std.proofs.Common.{◌≡◌, ◌≢◌, ◌<◌, ◌≤◌, ◌+◌, ◌-◌, ◌*◌, ◌%◌, ◌^◌, ◌++◌, ℕ, suc, true, false, List, [], ◌∷◌, length, get_or, take, drop, map, Some, refl, sym, ap, ◌∙◌, subst, arith, inl, inr}
+use Rattle.std.proofs.Common.{◌≡◌, ◌≢◌, ◌<◌, ◌≤◌, ◌+◌, ◌-◌, ◌*◌, ◌^◌, ◌++◌, ℕ, true, false, List, [], ◌∷◌, length, get_or, take, drop, map, Some, sym, ap, ◌∙◌, subst, arith, inl, inr}
 use Rattle.std.specs.Prelude.{nat_lt, nat_le, option_map}
-use Rattle.std.specs.List.{All, concat, slice_get, range_with_len}
+use Rattle.std.specs.List.{slice_get, range_with_len}
 use Rattle.std.proofs.Math.Seq.{take-append-add, take-append_seam, drop-append-add, drop-append_seam}
 use Rattle.std.proofs.lemmas.Bool.{cases_Bool, cond-true, cond-false, and_parts, ltb-true}
-use Rattle.std.proofs.lemmas.List.{length-append, length-drop, length-take-le, length-map, map-append, get_or_default}
+use Rattle.std.proofs.lemmas.List.{length-drop, length-take-le, length-map, map-append}
 use Rattle.std.proofs.lemmas.List.Elements.{All-nil, All-append, All-map}
 use Rattle.std.proofs.lemmas.List.FromFn.{length-map-range_with_len}
 use Rattle.std.proofs.lemmas.Nat.{mul-le}
 use Rattle.std.proofs.lemmas.Option.{slice_get-get_or, slice_get-map, slice_get_within, get_or_from_slice_get}
-use Rattle.byteorder.specs.Endian.{little_number, little_bytes}
 use Rattle.byteorder.specs.Numbers.{little_number-reads_back}
 use borrow.Rule.Slice.PartMut.{put_mid}
-use Rattle.gs_rs.specs.declared.shape.CodeShape.{CodeShape}
 use Rattle.gs_rs.specs.Shape.{video_code}
 use Rattle.gs_rs.specs.Shards.{parity_shard}
 use Rattle.gs_rs.proofs.HeldShards.{parity_shards, parity_byte, slice_get-append_left}
@@ -20,10 +18,10 @@ use Rattle.gs_rtp.specs.declared.video.VideoHead.{VideoHead}
 use Rattle.gs_rtp.specs.Stream.{StreamSettings}
 use Rattle.gs_rtp.specs.Video.{IsVideoHead, video_header}
 use Rattle.gs_frames.specs.Image.{ceil_div, frame_image, packets}
-use Rattle.gs_frames.specs.Plan.{BlockPlan, most_shards, most_blocks, has_parity}
+use Rattle.gs_frames.specs.Plan.{BlockPlan, most_shards, most_blocks}
 use Rattle.gs_frames.specs.Received.{Received}
-use Rattle.gs_frames.specs.Shards.{CoveredHeader, covered_header, read_covered, payload_of, packet_header, shares, data_shards_from, block_shards}
-use Rattle.gs_frames.specs.Datagrams.{Place, next_block, datagram_of, shard_head, headed_shard, headed_shards, headed_blocks, plan_of, first_place, OutgoingFrame, frame_shards, frame_datagrams}
+use Rattle.gs_frames.specs.Shards.{CoveredHeader, covered_header, read_covered, payload_of, packet_header, block_shards}
+use Rattle.gs_frames.specs.Datagrams.{Place, next_block, datagram_of, shard_head, headed_shard, headed_shards, headed_blocks, plan_of, first_place, frame_shards, frame_datagrams}
 use Rattle.gs_frames.proofs.FramesReceived.{place_at, data_total, data_total-cons}
 use Rattle.gs_frames.proofs.Images.{length-frame_image}
 use Rattle.gs_frames.proofs.PlanLimits.{IsWithinGrammar}
@@ -33,7 +31,7 @@ use Rattle.gs_split.specs.declared.placed.PlacedBlock.{PlacedBlock}
 use Rattle.gs_split.specs.Plans.{blocks_of}
 use Rattle.gs_split.specs.Places.{packets_before, datagrams_before, placed_plan, IsPlaced}
 use Rattle.gs_split.specs.Splitting.{KeepsShards, has_parity_at}
-use Rattle.gs_split.specs.Loaded.{IsPlanned, outgoing, place_of, payload_at, covered_at, data_shard_at, block_data, shards_of_block}
+use Rattle.gs_split.specs.Loaded.{IsPlanned, outgoing, place_of, data_shard_at, block_data, shards_of_block}
 use Rattle.gs_split.proofs.Places.{length-blocks_of}
 use Rattle.gs_split.proofs.LaidShards.{HaveSize, drop-twice, laid-at, take-inside}
 use Rattle.gs_split.proofs.DataShards.{length-block_data, block_data-at, data_shards-sizes}

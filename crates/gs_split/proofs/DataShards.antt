@@ -1,6 +1,6 @@
 -- The data shards of a block, one by one.
-use Rattle.std.proofs.Common.{◌≡◌, ◌<◌, ◌≤◌, ◌+◌, ◌-◌, ◌*◌, ℕ, zero, suc, List, [], ◌∷◌, ◌++◌, length, get_or, take, drop, refl, sym, ap, ◌∙◌, arith}
-use Rattle.std.proofs.lemmas.List.{length-append, length-drop, length-take-le, get_or_default}
+use Rattle.std.proofs.Common.{◌≡◌, ◌<◌, ◌≤◌, ◌+◌, ◌*◌, ℕ, zero, suc, List, [], ◌∷◌, length, get_or, take, drop, refl, ap, ◌∙◌, arith}
+use Rattle.std.proofs.lemmas.List.{length-drop, length-take-le, get_or_default}
 use Rattle.std.proofs.lemmas.Nat.{mul-le}
 use Rattle.gs_rtp.specs.Stream.{StreamSettings}
 use Rattle.gs_frames.specs.Image.{frame_image, packets}
@@ -9,7 +9,7 @@ use Rattle.gs_frames.proofs.Images.{length-frame_image}
 use Rattle.gs_frames.proofs.ShardForms.{length-shares}
 use Rattle.gs_split.specs.declared.frame.LoadedFrame.{LoadedFrame}
 use Rattle.gs_split.specs.declared.placed.PlacedBlock.{PlacedBlock}
-use Rattle.gs_split.specs.Loaded.{block_image, block_data, data_shard_at, payload_at}
+use Rattle.gs_split.specs.Loaded.{block_image, block_data, data_shard_at}
 use Rattle.gs_split.proofs.LaidShards.{HaveSize, drop-twice}
 
 -- ---- shares of an image

@@ -1,15 +1,15 @@
 -- Shards of one size, laid end to end.
-use Rattle.std.proofs.Common.{◌≡◌, ◌≢◌, ◌<◌, ◌≤◌, ◌+◌, ◌-◌, ◌*◌, ℕ, zero, suc, List, [], ◌∷◌, ◌++◌, length, get_or, take, drop, map, refl, sym, ap, ◌∙◌, subst, arith, inl, inr}
+use Rattle.std.proofs.Common.{◌≡◌, ◌<◌, ◌≤◌, ◌+◌, ◌*◌, ℕ, zero, suc, List, [], ◌∷◌, ◌++◌, length, get_or, take, drop, refl, sym, ap, ◌∙◌, arith, inl}
 use Rattle.std.specs.List.{All, concat, range_with_len}
 use Rattle.std.proofs.Math.Seq.{take-suc, take-append_seam, drop-append-add, drop-nil}
-use Rattle.std.proofs.lemmas.List.{length-append, length-drop, length-take-le, append-nil, take_all, take-append-le, drop-append-le}
-use Rattle.std.proofs.lemmas.List.Elements.{All-head, All-tail, All-take}
+use Rattle.std.proofs.lemmas.List.{length-append, length-drop, append-nil, take_all, take-append-le, drop-append-le}
+use Rattle.std.proofs.lemmas.List.Elements.{All-head, All-tail}
 use Rattle.std.proofs.lemmas.List.Folds.{concat-append}
 use Rattle.std.proofs.lemmas.List.FromFn.{length-range_with_len, get_or-range_with_len}
 use Rattle.std.proofs.lemmas.Nat.{mul-le}
 use Rattle.std.proofs.lemmas.Slice.{take-put_mid}
 use Rattle.gs_rs.specs.declared.shape.CodeShape.{CodeShape}
-use Rattle.gs_rs.specs.Shape.{IsCode, shard_count}
+use Rattle.gs_rs.specs.Shape.{IsCode}
 use Rattle.gs_rs.specs.Codeword.{IsBlock, shard_of}
 use Rattle.gs_rs.specs.Laws.{AreEnough}
 use Rattle.gs_rs.specs.Shards.{with_parity_shards}

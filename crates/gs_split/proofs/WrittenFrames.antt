@@ -2,7 +2,6 @@
 use Rattle.std.proofs.Common.{◌≡◌, ◌≤◌, ◌+◌, ◌-◌, ◌*◌, ◌++◌, ℕ, suc, List, length, take, drop, map, sym, ap, ◌∙◌, arith}
 use Rattle.std.specs.List.{concat, slice_get}
 use Rattle.std.proofs.lemmas.List.{length-drop, length-map, length-take-le}
-use Rattle.std.proofs.lemmas.Nat.{mul-le}
 use Rattle.std.proofs.lemmas.Slice.{take-put_mid}
 use borrow.Rule.Slice.PartMut.{put_mid}
 use Rattle.gs_rtp.specs.Stream.{StreamSettings}
@@ -14,7 +13,7 @@ use Rattle.gs_split.specs.declared.frame.LoadedFrame.{LoadedFrame}
 use Rattle.gs_split.specs.declared.placed.PlacedBlock.{PlacedBlock}
 use Rattle.gs_split.specs.Plans.{blocks_of}
 use Rattle.gs_split.specs.Places.{packets_before, datagrams_before, placed_plan, block_end, IsPlaced}
-use Rattle.gs_split.specs.Loaded.{IsPlanned, outgoing, block_image, shards_of_block}
+use Rattle.gs_split.specs.Loaded.{IsPlanned, outgoing, shards_of_block}
 use Rattle.gs_split.proofs.Places.{length-blocks_of, end-is}
 use Rattle.gs_split.proofs.FrameShards.{laid, laid-next, laid-all, length-blocks}
 

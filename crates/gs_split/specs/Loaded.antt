@@ -1,6 +1,8 @@
 -- A loaded frame, and what its datagrams are made of.
-use Rattle.std.specs.Prelude.{ℕ, ◌≡◌, ◌≤◌, ◌<◌, ◌+◌, ◌-◌, ◌*◌, ◌%◌, ◌^◌, ◌++◌, Bool, List, take, drop, Some, true, if◌then◌else◌}
+use Rattle.std.specs.Prelude.{ℕ, ◌≡◌, ◌≤◌, ◌<◌, ◌+◌, ◌-◌, ◌*◌, ◌%◌, ◌^◌, ◌++◌, List, take, drop, Some, true, if◌then◌else◌}
 use Rattle.std.specs.List.{slice_get}
+use Rattle.gs_bytes.specs.Limits.{most_unit}
+use Rattle.gs_rtp.specs.Limits.{most_frame}
 use Rattle.gs_rtp.specs.Stream.{StreamSettings}
 use Rattle.gs_frames.specs.Image.{frame_image, packets}
 use Rattle.gs_frames.specs.ImageLaws.{IsWrittenKind}
@@ -28,9 +30,9 @@ plans_at s unit_length = fec_plan (packets unit_length (payload_of s)) s.percent
 -- a frame that goes out at these settings, with its plan
 pub record IsPlanned (s : StreamSettings) (f : LoadedFrame) : Type 0 where
   pub frame_least : 1 ≤ f.frame
-  pub frame_greatest : f.frame ≤ 1048576
+  pub frame_greatest : f.frame ≤ most_frame
   pub written : IsWrittenKind f.kind
-  pub limit : f.unit_length ≤ 4000000
+  pub limit : f.unit_length ≤ most_unit
   pub blocks : blocks_of f.plan ≡ plans_at s f.unit_length
   pub percentage : f.plan.percentage ≡ (if has_parity_at s f.unit_length then s.percentage else 0)
   pub datagrams : f.datagrams ≡ datagrams_before f.plan.blocks (blocks_of f.plan)

@@ -2,11 +2,14 @@
 
 ghost use Rattle.std.specs.Prelude.{◌≡◌, ◌≤◌, ◌+◌, ◌*◌, length, map, true};
 ghost use Rattle.std.specs.List.{concat};
+ghost use Rattle.gs_bytes.specs.Limits.{most_unit};
+ghost use Rattle.gs_rtp.specs.Limits.{most_frame};
 ghost use Rattle.gs_rtp.specs.Stream.{numbers_of};
 ghost use Rattle.gs_frames.specs.Datagrams.{frame_shards};
 ghost use Rattle.gs_frames.specs.Image.{packets};
 ghost use Rattle.gs_frames.specs.ImageLaws.{IsWrittenKind};
 ghost use Rattle.gs_frames.specs.Shards.{payload_of};
+ghost use Rattle.gs_split.specs.Plans.{most_payload};
 ghost use Rattle.gs_split.specs.Splitting.{KeepsShards, has_parity_at};
 ghost use Rattle.gs_split.specs.Loaded.{
   IsPlanned,
@@ -50,9 +53,9 @@ impl LoadedFrame {
         unit_length: u32,
     ) -> LoadedFrame
         requires frame_least { 1 ≤ frame }
-        requires frame_greatest { frame ≤ 1048576 }
+        requires frame_greatest { frame ≤ most_frame }
         requires written { IsWrittenKind kind }
-        requires limit { unit_length ≤ 4000000 }
+        requires limit { unit_length ≤ most_unit }
         ensures planned { IsPlanned (numbers_of settings.now) result }
         ensures count { result.count ≡ count }
         ensures frame { result.frame ≡ frame }
@@ -84,8 +87,8 @@ impl LoadedFrame {
     // Writes the payload of a data shard.
     pub(crate) fn write_data(&self, block: &PlacedBlock, index: u16, unit: &[u8], out: &mut [u8])
         requires payload { 1008 ≤ length out.old }
-        requires most { length out.old ≤ 1424 }
-        requires limit { length unit.now ≤ 4000000 }
+        requires most { length out.old ≤ most_payload }
+        requires limit { length unit.now ≤ most_unit }
         requires packets { block.now.first_packet + index + 1 ≤ packets (length unit.now) (length out.old) }
         ensures { out.new ≡ payload_at (length out.old) self.now.kind block.now.first_packet unit.now index }
     {
@@ -104,7 +107,7 @@ impl LoadedFrame {
     )
         requires size { length out.old ≡ settings.now.packet }
         requires few { block.now.first_datagram ≤ 400000 }
-        requires limit { length unit.now ≤ 4000000 }
+        requires limit { length unit.now ≤ most_unit }
         requires packets { block.now.first_packet + index + 1 ≤ packets (length unit.now) (payload_of (numbers_of settings.now)) }
         ensures { out.new ≡ data_shard_at (numbers_of settings.now) self.now block.now unit.now index }
     {
@@ -122,7 +125,7 @@ impl LoadedFrame {
     )
         requires size { length out.old ≡ block.now.shards * settings.now.packet }
         requires few { block.now.first_datagram ≤ 400000 }
-        requires limit { length unit.now ≤ 4000000 }
+        requires limit { length unit.now ≤ most_unit }
         requires packets { block.now.first_packet + block.now.shards ≤ packets (length unit.now) (payload_of (numbers_of settings.now)) }
         ensures { out.new ≡ concat (block_data (numbers_of settings.now) self.now block.now unit.now) }
     {
@@ -140,7 +143,7 @@ impl LoadedFrame {
         requires code { block.now.shards + block.now.parity ≤ 255 }
         requires few { block.now.first_datagram ≤ 400000 }
         requires written { IsWrittenKind self.now.kind }
-        requires limit { length unit.now ≤ 4000000 }
+        requires limit { length unit.now ≤ most_unit }
         requires packets { block.now.first_packet + block.now.shards ≤ packets (length unit.now) (payload_of (numbers_of settings.now)) }
         ensures { out.new ≡ concat (shards_of_block (numbers_of settings.now) self.now block.now unit.now) }
     {

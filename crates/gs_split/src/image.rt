@@ -1,7 +1,9 @@
 // Payloads of a frame's image, cut from its unit.
 
 ghost use Rattle.std.specs.Prelude.{◌≡◌, ◌≤◌, ◌+◌, ◌-◌, ◌*◌, ◌++◌, length, take, drop, min, replicate};
+ghost use Rattle.gs_bytes.specs.Limits.{most_unit};
 ghost use Rattle.gs_frames.specs.Image.{frame_image, last_length, packets};
+ghost use Rattle.gs_split.specs.Plans.{most_payload};
 
 use gs_frames::{IMAGE_HEADER_LENGTH, write_image_header};
 
@@ -17,8 +19,8 @@ fn write_padded(bytes: &[u8], out: &mut [u8])
 // How much of its last payload of this size a unit takes, with its image's header.
 fn last_length_of(length: usize, payload: usize) -> u16
     requires payload { 8 ≤ payload }
-    requires most { payload ≤ 1424 }
-    requires limit { length ≤ 4000000 }
+    requires most { payload ≤ most_payload }
+    requires limit { length ≤ most_unit }
     ensures { result ≡ last_length length payload }
 {
     match (IMAGE_HEADER_LENGTH + length) % payload {
@@ -30,8 +32,8 @@ fn last_length_of(length: usize, payload: usize) -> u16
 // Writes a payload of the image of a unit: the one of this number, from 0.
 pub(crate) fn write_payload(kind: u8, unit: &[u8], number: usize, out: &mut [u8])
     requires payload { 8 ≤ length out.old }
-    requires most { length out.old ≤ 1424 }
-    requires limit { length unit.now ≤ 4000000 }
+    requires most { length out.old ≤ most_payload }
+    requires limit { length unit.now ≤ most_unit }
     requires number { number + 1 ≤ packets (length unit.now) (length out.old) }
     ensures { out.new
         ≡ take (length out.old) (drop (number * length out.old) (frame_image kind unit.now (length out.old))) }

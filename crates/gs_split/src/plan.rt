@@ -1,23 +1,20 @@
 // How a frame is parted into blocks of shards.
 
 ghost use Rattle.std.specs.Prelude.{◌≡◌, ◌≤◌, ◌<◌, ◌*◌, slice_index, if◌then◌else◌};
+ghost use Rattle.gs_bytes.specs.Limits.{most_unit};
+ghost use Rattle.gs_rtp.specs.Limits.{most_shards_of_block};
 ghost use Rattle.gs_rtp.specs.Stream.{numbers_of};
 ghost use Rattle.gs_frames.specs.Image.{packets};
 ghost use Rattle.gs_frames.specs.Plan.{block_count, fec_plan, has_parity, most_shards, parts};
 ghost use Rattle.gs_frames.specs.Shards.{payload_of};
 ghost use Rattle.gs_split.specs.Plans.{IsZeroFrom, block_plan, blocks_of, protected};
 
+use crate::shard::PACKET_HEADER;
 use gs_frames::IMAGE_HEADER_LENGTH;
-use gs_rtp::{CODE_SHARDS_GREATEST, SHARDS_GREATEST, Settings};
-
-/// The greatest length of a unit, in bytes.
-pub const UNIT_GREATEST: u32 = 4_000_000;
+use gs_rtp::{CODE_SHARDS_GREATEST, LAST_BLOCK_GREATEST, SHARDS_GREATEST, Settings};
 
 /// The most blocks of a frame.
-pub const BLOCKS_GREATEST: usize = 4;
-
-// How much of a packet isn't payload.
-const PACKET_HEADER: u16 = 16;
+pub const BLOCKS_GREATEST: usize = LAST_BLOCK_GREATEST as usize + 1;
 
 /// How a frame is parted into blocks. What is said of each block stands at the block's place; the places at and
 /// above `blocks` hold 0.
@@ -39,7 +36,7 @@ pub struct Plan {
 
 // How many payloads a unit of this length takes, with its image's header.
 fn packets_of(len: u32, payload: u16) -> u32
-    requires limit { len ≤ 4000000 }
+    requires limit { len ≤ most_unit }
     requires payload { 1008 ≤ payload }
     ensures is { result ≡ packets len payload }
     ensures least { 1 ≤ result }
@@ -72,7 +69,7 @@ fn blocks_at(packets: u32, percentage: u8) -> u32
     ensures is { result ≡ block_count packets percentage }
     ensures some { 1 ≤ result }
     ensures few { result ≤ 4 }
-    ensures room { packets ≤ result * 1023 }
+    ensures room { packets ≤ result * most_shards_of_block }
 {
     if is_protected(packets, percentage) {
         packets.div_ceil(most_shards_at(percentage))
@@ -99,9 +96,9 @@ fn part(packets: u32, blocks: u32, block: u32) -> u32
     requires some { 1 ≤ blocks }
     requires few { blocks ≤ 4 }
     requires block { block < 4 }
-    requires room { packets ≤ blocks * 1023 }
+    requires room { packets ≤ blocks * most_shards_of_block }
     ensures is { result ≡ slice_index (parts packets blocks) block }
-    ensures most { result ≤ 1023 }
+    ensures most { result ≤ most_shards_of_block }
 {
     let each = packets.div_ceil(blocks);
     if block + 1 < blocks {
@@ -125,7 +122,7 @@ struct Block {
 fn protect(shards: u16, percentage: u8, minimum: u8) -> Block
     requires within { percentage ≤ 100 }
     requires least { minimum ≤ 2 }
-    requires most { shards ≤ 1023 }
+    requires most { shards ≤ most_shards_of_block }
     ensures { block_plan result ≡ protected percentage minimum shards }
 {
     if shards == 0 || percentage == 0 {
@@ -158,7 +155,7 @@ fn block_of(packets: u32, blocks: u32, block: u32, percentage: u8, minimum: u8) 
     requires some { 1 ≤ blocks }
     requires few { blocks ≤ 4 }
     requires block { block < 4 }
-    requires room { packets ≤ blocks * 1023 }
+    requires room { packets ≤ blocks * most_shards_of_block }
     requires within { percentage ≤ 100 }
     requires least { minimum ≤ 2 }
     ensures { block_plan result ≡ protected percentage minimum (slice_index (parts packets blocks) block) }
@@ -169,7 +166,7 @@ fn block_of(packets: u32, blocks: u32, block: u32, percentage: u8, minimum: u8) 
 
 /// How a frame with a unit of so many bytes is parted into blocks at these settings.
 pub fn plan_of(len: u32, settings: &Settings) -> Plan
-    requires limit { len ≤ 4000000 }
+    requires limit { len ≤ most_unit }
     ensures packets { result.packets ≡ packets len (payload_of (numbers_of settings.now)) }
     ensures blocks { blocks_of result
         ≡ fec_plan (packets len (payload_of (numbers_of settings.now))) settings.now.percentage settings.now.minimum }
@@ -181,7 +178,7 @@ pub fn plan_of(len: u32, settings: &Settings) -> Plan
     ensures parity { IsZeroFrom result.blocks result.parity }
     ensures sent { IsZeroFrom result.blocks result.sent }
 {
-    let packets = packets_of(len, settings.packet - PACKET_HEADER);
+    let packets = packets_of(len, settings.packet - PACKET_HEADER as u16);
     let blocks = blocks_at(packets, settings.percentage);
     let percentage = percentage_at(packets, settings.percentage);
     let Settings { minimum, .. } = *settings;

@@ -2,6 +2,8 @@
 
 ghost use Rattle.std.specs.Prelude.{ℕ, ◌≡◌, ◌≤◌, ◌<◌, ◌+◌, ◌*◌, ◌%◌, ◌^◌, IfOk, Some, length, take, drop, true, vec_len, vec_capacity};
 ghost use Rattle.std.specs.List.{slice_get};
+ghost use Rattle.gs_bytes.specs.Limits.{most_unit};
+ghost use Rattle.gs_rtp.specs.Limits.{most_frame};
 ghost use Rattle.gs_rtp.specs.Stream.{numbers_of};
 ghost use Rattle.gs_frames.specs.ImageLaws.{IsWrittenKind};
 ghost use Rattle.gs_frames.specs.Datagrams.{OutgoingFrame, frame_datagrams};
@@ -123,9 +125,9 @@ impl Splitter {
     /// an older frame), the time of its tick in milliseconds, and its unit. Answers how many datagrams it has.
     pub fn load(&mut self, frame: u32, kind: u8, time: u32, unit: &[u8]) -> u32
         requires frame_least { 1 ≤ frame }
-        requires frame_greatest { frame ≤ 1048576 }
+        requires frame_greatest { frame ≤ most_frame }
         requires written { IsWrittenKind kind }
-        requires limit { length unit.now ≤ 4000000 }
+        requires limit { length unit.now ≤ most_unit }
         ensures settings { self.new.settings ≡ self.old.settings }
         ensures count { self.new.count ≡ next_count self.old }
         ensures datagrams { self.new.datagrams ≡ result }

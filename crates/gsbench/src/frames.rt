@@ -4,8 +4,9 @@ ghost use Rattle.std.specs.Prelude.{◌≡◌, ◌≢◌, ◌<◌, ◌≤◌, If
 use crate::bytes::{SEED, checksum, made};
 use crate::report::{Report, Stop};
 use crate::words::{expect_end, number_at};
+use gs_bytes::MOST_UNIT;
 use gs_rtp::{FRAME_GREATEST, PACKET_GREATEST, PACKET_LEAST, PERCENTAGE_GREATEST, Settings};
-use gs_split::{Splitter, UNIT_GREATEST};
+use gs_split::Splitter;
 use std::alloc::Global;
 
 const KIND_IDR: u8 = 2;
@@ -31,7 +32,7 @@ pub fn run_split(alloc: Global, words: &[String]) -> Result<Report, Stop>
     ensures bytes { IfOk result (λ report. 0 < report.bytes) }
 {
     let settings = settings_of(words)?;
-    let len = number_at(words, 3, 1, UNIT_GREATEST)?;
+    let len = number_at(words, 3, 1, MOST_UNIT)?;
     let count = number_at(words, 4, 1, u32::MAX)?;
     expect_end(words, 5)?;
     let unit = made(alloc, len as usize, SEED)?;

@@ -1,4 +1,4 @@
-use Rattle.std.proofs.Common.{◌≡◌, ◌-◌, ◌*◌, length, drop, refl, arith}
+use Rattle.std.proofs.Common.{◌-◌, ◌*◌, length, drop, refl, arith}
 use Rattle.std.proofs.lemmas.List.{length-drop, take_all}
 use Rattle.gs_split.proofs.Payloads.{first-payload, later-payload}
 use Rattle.gs_split.proofs.image.write_payload.Goals as goal

@@ -7,16 +7,16 @@ use Rattle.gs_depack.proofs.depack.Depack.pass.Goals as goal
 pub returns-in_default-clause-hands : goal.returns-in_default-clause-hands
 returns-in_default-clause-hands c = λ s came unnoted given stands.
     let d = c.args.self.now in
-    let none : c.kind_of.result ≡ None = search rules in
-    let noted : noted_kind d (suc d.passed) ≡ None = ap (noted_kind d) (sym (add-one d.passed)) ∙ sym c.kind_of.ensures ∙ none in
+    let none : c.noted_as.result ≡ None = search rules in
+    let noted : noted_kind d (suc d.passed) ≡ None = ap (noted_kind d) (sym (add-one d.passed)) ∙ sym c.noted_as.ensures ∙ none in
     subst (λ (n : ℕ). Handing (record d { passed = n }) s came unnoted given) (sym (add-one d.passed))
     (pass-none d s came unnoted given (record { stands = stands; more = c.requires }) noted)
 
 pub returns-then-not-is_next-clause-hands : goal.returns-then-not-is_next-clause-hands
 returns-then-not-is_next-clause-hands c = λ s came unnoted given stands.
     let d = c.args.self.now in
-    let some : c.kind_of.result ≡ Some c.in-Some.kind = search rules in
-    let noted : noted_kind d (suc d.passed) ≡ Some c.in-Some.kind = ap (noted_kind d) (sym (add-one d.passed)) ∙ sym c.kind_of.ensures ∙ some in
+    let some : c.noted_as.result ≡ Some c.in-Some.kind = search rules in
+    let noted : noted_kind d (suc d.passed) ≡ Some c.in-Some.kind = ap (noted_kind d) (sym (add-one d.passed)) ∙ sym c.noted_as.ensures ∙ some in
     let no : c.is_next.result ≡ false = search rules in
     let fails : is_handed_next d.last_handed d.waits_for_idr (suc d.passed) c.in-Some.kind ≡ false =
     ap (λ (n : ℕ). is_handed_next d.last_handed d.waits_for_idr n c.in-Some.kind) (sym (add-one d.passed)) ∙ sym c.is_next.ensures ∙ no in
@@ -26,8 +26,8 @@ returns-then-not-is_next-clause-hands c = λ s came unnoted given stands.
 pub returns-clause-hands : goal.returns-clause-hands
 returns-clause-hands c = λ s came unnoted given stands.
     let d = c.args.self.now in
-    let some : c.kind_of.result ≡ Some c.in-Some.kind = search rules in
-    let noted : noted_kind d (suc d.passed) ≡ Some c.in-Some.kind = ap (noted_kind d) (sym (add-one d.passed)) ∙ sym c.kind_of.ensures ∙ some in
+    let some : c.noted_as.result ≡ Some c.in-Some.kind = search rules in
+    let noted : noted_kind d (suc d.passed) ≡ Some c.in-Some.kind = ap (noted_kind d) (sym (add-one d.passed)) ∙ sym c.noted_as.ensures ∙ some in
     let yes : c.is_next.result ≡ true = search rules in
     let passes : is_handed_next d.last_handed d.waits_for_idr (suc d.passed) c.in-Some.kind ≡ true =
     ap (λ (n : ℕ). is_handed_next d.last_handed d.waits_for_idr n c.in-Some.kind) (sym (add-one d.passed)) ∙ sym c.is_next.ensures ∙ yes in

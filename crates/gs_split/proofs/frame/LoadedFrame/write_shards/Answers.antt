@@ -1,7 +1,7 @@
 use Rattle.std.proofs.Common.{◌≡◌, ◌≤◌, ◌+◌, ◌*◌, ℕ, length, refl, ap, ◌∙◌, sym, subst, arith, rules}
 use Rattle.std.proofs.lemmas.List.{take_all}
 use Rattle.std.proofs.lemmas.Nat.{mul-le}
-use Rattle.gs_rtp.specs.Stream.{StreamSettings, numbers_of}
+use Rattle.gs_rtp.specs.Stream.{numbers_of}
 use Rattle.gs_rtp.specs.declared.settings.Settings.{Settings}
 use Rattle.gs_frames.specs.Image.{packets, frame_image}
 use Rattle.gs_frames.specs.Shards.{payload_of}

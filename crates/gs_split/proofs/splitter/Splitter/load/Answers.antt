@@ -1,7 +1,7 @@
-use Rattle.std.proofs.Common.{◌≡◌, ◌+◌, ◌%◌, ◌^◌, ◌∙◌, ℕ, List, length, refl, sym, ap, subst, arith}
-use Rattle.gs_rtp.specs.Stream.{StreamSettings, numbers_of}
+use Rattle.std.proofs.Common.{◌≡◌, ◌+◌, ◌%◌, ◌^◌, ◌∙◌, ℕ, length, refl, sym, ap, subst, arith}
+use Rattle.gs_rtp.specs.Stream.{numbers_of}
 use Rattle.gs_frames.specs.Datagrams.{frame_shards, frame_datagrams}
-use Rattle.gs_split.specs.Splitting.{Splitting, IsLoaded, KeepsShards, frame_behind, has_parity_at, next_count}
+use Rattle.gs_split.specs.Splitting.{Splitting, frame_behind, has_parity_at, next_count}
 use Rattle.gs_split.specs.Loaded.{outgoing}
 use Rattle.gs_split.proofs.CountsAgree.{same-shards, keeps-same}
 use Rattle.gs_split.proofs.WrittenFrames.{datagrams-length}
