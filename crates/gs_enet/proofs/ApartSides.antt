@@ -123,9 +123,9 @@ one_way x y took back =
       prefix = λ c. (
           let h : Heard c (gave x c) (length (gave x c) ≤ acks x c) (ended y) = hearing x y c took back in (
             messages_on c (ended y).peer.waiting ++ h.hears.in_order.0,
-            sym (append_assoc (told (ended y).peer c) (messages_on c (ended y).peer.waiting) h.hears.in_order.0)
-                ∙ ap (λ (w : List (List ℕ)). w ++ h.hears.in_order.0) (sym (messages_on-append c (ended y).peer.told (ended y).peer.waiting))
-                ∙ h.hears.in_order.1,
+            h.hears.in_order.1
+                ∙ ap (λ (w : List (List ℕ)). w ++ h.hears.in_order.0) (messages_on-append c (ended y).peer.told (ended y).peer.waiting)
+                ∙ append_assoc (told (ended y).peer c) (messages_on c (ended y).peer.waiting) h.hears.in_order.0,
           )
           );
       whole = λ has c.

@@ -16,7 +16,7 @@ use Rattle.gs_enet.specs.declared.event.PeerEvent.TheVariants as event
 use Rattle.gs_enet.specs.declared.state.PeerState.{PeerState}
 use Rattle.gs_enet.specs.declared.state.PeerState.TheVariants as state
 use Rattle.gs_enet.specs.Record.{PeerRecord, Unacknowledged, Content, Connect, VerifyConnect, Disconnect, Message, channels, control, last_number, given_on, messages_on, heard, heard_count, is_shut, shut, happened, owing, fresh}
-use Rattle.gs_enet.specs.Receive.{leave_if, leaving, is_named, acknowledged, acknowledged_if, acknowledge_came, disconnect_if, disconnect_came, connected, takes_messages, expected, distance, is_behind, message_if, taken_if, message_came, is_connect_content, is_connect, verify_if, verified, verify_came}
+use Rattle.gs_enet.specs.Receive.{leave_if, leaving, is_named, acknowledged, acknowledged_if, acknowledge_came, disconnect_if, disconnect_came, connected, takes_messages, expected, is_next, is_behind, message_if, taken_if, message_came, is_connect_content, is_connect, verify_if, verified, verify_came}
 use Rattle.gs_enet.specs.Steps.{next_number, is_full, is_open, with_message, close_if, closed, placed, first_event, next_event, telling, timed_if, timed_at, name_of, is_lost, due_again}
 use Rattle.gs_enet.specs.Window.{unacknowledged, in_window, front_is_held}
 use Rattle.gs_enet.specs.Channels.{next_of, channel_held, all_held, is_channel_full, AreEmpty, GivesOne, SameHeld, MarksDue, DropsNamed}
@@ -72,14 +72,12 @@ tells_one p r c place bytes old new s below at was next more held =
       ap (λ (n : ℕ). n + 1) was_heard,
     )
 
-pub message-next : (c number : ℕ) (bytes : List ℕ) (a : Answer) (r : PeerRecord) → c < 48 → takes_messages r.state ≡ true → distance number (expected r c) ≡ 0
-    → expected r c < last_number
+pub message-next : (c number : ℕ) (bytes : List ℕ) (a : Answer) (r : PeerRecord) → c < 48 → takes_messages r.state ≡ true
+    → is_next number (expected r c) ≡ true
     → message_came c number bytes a r ≡ owing a (happened (event.Message c (expected r c) bytes) r)
-message-next c number bytes a r below takes zero_apart small =
+message-next c number bytes a r below takes next =
     ap (λ (b : Bool). taken_if b c number bytes a r) (and_from (nat_lt c channels) (takes_messages r.state) (lt-ltb c channels below) takes)
-    ∙ ap (λ (b : Bool). message_if b (is_behind number (expected r c)) c (expected r c) bytes a r)
-    (and_from (distance number (expected r c) == 0) (nat_lt (expected r c) last_number) (eq-eqb (distance number (expected r c)) 0 zero_apart)
-    (lt-ltb (expected r c) last_number small))
+    ∙ ap (λ (b : Bool). message_if b (is_behind number (expected r c)) c (expected r c) bytes a r) next
 
 no_connects : (us : List Unacknowledged) → Each (IsFrom 0) us → filter (λ (u : Unacknowledged). not (is_connect u.order)) us ≡ us
 no_connects [] h = refl

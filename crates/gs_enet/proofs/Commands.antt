@@ -9,7 +9,9 @@ use Rattle.gs_enet_wire.specs.declared.command.Command.TheVariants as command
 use Rattle.gs_enet_wire.specs.Grammar.{head, after_first, fields_bytes, header, AreCommands, Spells}
 use Rattle.gs_enet.specs.declared.answer.Answer.{Answer}
 use Rattle.gs_enet.specs.Record.{PeerRecord}
-use Rattle.gs_enet.specs.Receive.{received, answer_to, other_came, disconnect_came, verify_came, message_came, all_received}
+use Rattle.gs_enet.specs.Receive.{received, answer_to, other_came, disconnect_came, verify_came, message_came, all_received, taken}
+use Rattle.gs_enet.specs.Standing.{StandsFor}
+use Rattle.gs_enet.specs.Outcomes.{Takes}
 use Rattle.gs_enet.specs.Rooms.{message_bytes, HasRooms, Grows}
 
 pub received-verify : (a : Answer) (cmd : Command) (r : PeerRecord) (channel number : ℕ) (asks : Bool)
@@ -121,3 +123,13 @@ length_front xs x ys e = omega (arith, ap length e)
 pub all_done : (sent : ℕ) (cs : List Command) (r : PeerRecord) → length cs ≡ 0 → all_received sent cs r ≡ r
 all_done sent [] r e = refl
 all_done sent (c ∷ cs) r e = absurd (omega (arith, e))
+
+-- ---- what is taken between two moments that change no record
+
+pub takes_through : (bytes : List ℕ) (now : ℕ) (old lent taken_by new : Peer) → ((r : PeerRecord) → StandsFor old r → StandsFor lent r)
+    → ((r : PeerRecord) → StandsFor taken_by r → StandsFor new r) → Takes bytes now lent taken_by → Takes bytes now old new
+takes_through bytes now old lent taken_by new first last t = record {
+  datagram = t.datagram;
+  spelled = t.spelled;
+  stands = λ r s. last (taken t.datagram now r) (t.stands r (first r s));
+}

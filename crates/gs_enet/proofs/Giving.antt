@@ -10,7 +10,7 @@ use Rattle.gs_enet.specs.Record.{Unacknowledged, Content, Connect, VerifyConnect
 use Rattle.gs_enet.specs.Steps.{placed, comes_before}
 use Rattle.gs_enet.specs.Write.{Item, Answers, Orders}
 use Rattle.gs_enet.specs.World.{Written}
-use Rattle.gs_enet.specs.Laws.{IsPrefixOf}
+use Rattle.gs_bytes.specs.Prefix.{IsPrefixOf}
 use Rattle.gs_enet.proofs.Lists.{Each, each_weaker, each_map, each_unmap, each_both}
 use Rattle.gs_enet.proofs.Kept.{Kept, IsOver, IsAt, Says, IsHeld, IsInWindow, Has, IsTrueOrder, OrdersOut, count_of, giving, given_on-own, given_on-apart}
 
@@ -102,7 +102,7 @@ gives {gv = gv} {sg = sg} {wg = wg} {hr = hr} us c bytes k up below room =
       in_order = λ d. elim (cases_eq c d) [
         | inl same ↦ subst (λ (e : ℕ). IsPrefixOf (messages_on e hr) (given_on e gv')) same (
           (k.in_order c).0 ++ bytes ∷ [],
-          sym (append_assoc (messages_on c hr) (k.in_order c).0 (bytes ∷ [])) ∙ ap (λ (w : List (List ℕ)). w ++ bytes ∷ []) (k.in_order c).1 ∙ sym own,
+          own ∙ ap (λ (w : List (List ℕ)). w ++ bytes ∷ []) (k.in_order c).1 ∙ append_assoc (messages_on c hr) (k.in_order c).0 (bytes ∷ []),
         )
         | inr other ↦ subst (λ (xs : List (List ℕ)). IsPrefixOf (messages_on d hr) xs) (sym (given_on-apart d c bytes gv other)) (k.in_order d)
       ];

@@ -8,7 +8,7 @@ use Rattle.gs_enet.specs.declared.event.PeerEvent.TheVariants as event
 use Rattle.gs_enet.specs.Record.{PeerRecord, channels, messages_on, heard, happened, owing}
 use Rattle.gs_enet.specs.Receive.{takes_messages, expected, distance, message_if, is_next, is_behind, taken_if, answer_to}
 use Rattle.gs_enet.specs.World.{Written}
-use Rattle.gs_enet.specs.Laws.{IsPrefixOf}
+use Rattle.gs_bytes.specs.Prefix.{IsPrefixOf}
 use Rattle.gs_enet.proofs.Kept.{IsShut, IsLast, IsAt, count_of, messages_on-message}
 use Rattle.gs_enet.proofs.Moves.{same_front}
 use Rattle.gs_enet.proofs.WrittenMessages.{one_if, put_answers}
@@ -45,11 +45,11 @@ hears_higher c ms G low low' r ws le k = record { in_order = k.in_order; fewer =
 
 -- ---- a message of the channel
 
-more_front : (known rest all : List (List ℕ)) (n : ℕ) (bytes : List ℕ) → known ++ rest ≡ all → n ≡ length known + 1 → IsAt all n bytes
+more_front : (known rest all : List (List ℕ)) (n : ℕ) (bytes : List ℕ) → all ≡ known ++ rest → n ≡ length known + 1 → IsAt all n bytes
     → IsPrefixOf (known ++ bytes ∷ []) all
 more_front known rest all n bytes e count place =
-    let same : known ≡ place.front = same_front known rest place.front (bytes ∷ place.rest) (e ∙ place.parts) (omega (arith, place.at, count)) in
-    (place.rest, append_assoc known (bytes ∷ []) place.rest ∙ ap (λ (w : List (List ℕ)). w ++ bytes ∷ place.rest) same ∙ sym place.parts)
+    let same : known ≡ place.front = same_front known rest place.front (bytes ∷ place.rest) (sym e ∙ place.parts) (omega (arith, place.at, count)) in
+    (place.rest, place.parts ∙ ap (λ (w : List (List ℕ)). w ++ bytes ∷ place.rest) (sym same) ∙ sym (append_assoc known (bytes ∷ []) place.rest))
 
 next_is : (n e : ℕ) → e ≤ n → n ≤ e + 256 → (n % 65536 + 65536 - e % 65536) % 65536 ≡ 0 → n ≡ e
 next_is n e least most d = omega arith

@@ -11,7 +11,7 @@ use Rattle.gs_enet.specs.declared.answer.Answer.{Answer}
 use Rattle.gs_enet.specs.Record.{Content, Connect, VerifyConnect, Disconnect, Message, Order, Given, channels, control, given_on, messages_on, heard}
 use Rattle.gs_enet.specs.Write.{Item, Answers, Orders}
 use Rattle.gs_enet.specs.World.{Written}
-use Rattle.gs_enet.specs.Laws.{IsPrefixOf}
+use Rattle.gs_bytes.specs.Prefix.{IsPrefixOf}
 use Rattle.gs_enet.proofs.Lists.{Each}
 
 -- ---- lists of messages

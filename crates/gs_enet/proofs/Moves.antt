@@ -11,7 +11,7 @@ use Rattle.gs_enet.specs.declared.answer.Answer.{Answer}
 use Rattle.gs_enet.specs.Record.{Content, Connect, VerifyConnect, Disconnect, Message, Order, Given, given_on, messages_on}
 use Rattle.gs_enet.specs.Write.{Item, Answers, Orders}
 use Rattle.gs_enet.specs.World.{Written}
-use Rattle.gs_enet.specs.Laws.{IsPrefixOf}
+use Rattle.gs_bytes.specs.Prefix.{IsPrefixOf}
 use Rattle.gs_enet.proofs.Lists.{Each, each_weaker}
 use Rattle.gs_enet.proofs.Kept.{Kept, IsDone, IsOver, IsShut, IsAt, Says, IsHeld, Has, IsTrueAnswer, IsTrueOrder, IsFewer, OrdersOut, AnswersOut, NothingAfter, IsLast, IsNoMessage, count_of, messages_on-other, messages_on-message, messages_on-apart}
 
@@ -168,11 +168,11 @@ same_front (x ∷ xs) rest (y ∷ ys) rest' e l =
     let fronts : xs ≡ ys = same_front xs rest ys rest' tails (omega (arith, l)) in
     cc
 
-grown : (known rest given : List (List ℕ)) (n : ℕ) (bytes : List ℕ) → known ++ rest ≡ given → n ≡ length known + 1 → IsAt given n bytes
+grown : (known rest given : List (List ℕ)) (n : ℕ) (bytes : List ℕ) → given ≡ known ++ rest → n ≡ length known + 1 → IsAt given n bytes
     → IsPrefixOf (known ++ bytes ∷ []) given
 grown known rest given n bytes e count place =
-    let same : known ≡ place.front = same_front known rest place.front (bytes ∷ place.rest) (e ∙ place.parts) (omega (arith, place.at, count)) in
-    (place.rest, append_assoc known (bytes ∷ []) place.rest ∙ ap (λ (w : List (List ℕ)). w ++ bytes ∷ place.rest) same ∙ sym place.parts)
+    let same : known ≡ place.front = same_front known rest place.front (bytes ∷ place.rest) (sym e ∙ place.parts) (omega (arith, place.at, count)) in
+    (place.rest, place.parts ∙ ap (λ (w : List (List ℕ)). w ++ bytes ∷ place.rest) (sym same) ∙ sym (append_assoc known (bytes ∷ []) place.rest))
 
 -- the next message of a channel
 pub hears_message : {gv : List Given} {os : List Order} {sg : PeerState} {hg : List PeerEvent} {wg : List Written} {hr : List PeerEvent} {pr : List Answer}

@@ -87,8 +87,8 @@ start_holds (Host own other connect_id now) (Host own' other' connect_id' now') 
 -- ---- what follows
 
 -- a prefix as long as the whole
-pub whole_prefix : (xs rest ys : List (List ℕ)) → xs ++ rest ≡ ys → length ys ≤ length xs → xs ≡ ys
-whole_prefix xs [] ys e most = sym (append-nil xs) ∙ e
+pub whole_prefix : (xs rest ys : List (List ℕ)) → ys ≡ xs ++ rest → length ys ≤ length xs → xs ≡ ys
+whole_prefix xs [] ys e most = sym (e ∙ append-nil xs)
 whole_prefix xs (r ∷ rest) ys e most = absurd (omega (arith, ap length e, length-append xs (r ∷ rest), most))
 
 -- behind the other side's disconnect no message waits
@@ -112,8 +112,8 @@ in_order_from g r k =
     record {
       prefix = λ c. (
         messages_on c r.waiting ++ (k.in_order c).0,
-        sym (append_assoc (told r c) (messages_on c r.waiting) (k.in_order c).0)
-            ∙ ap (λ (w : List (List ℕ)). w ++ (k.in_order c).0) (sym (messages_on-append c r.told r.waiting)) ∙ (k.in_order c).1,
+        (k.in_order c).1 ∙ ap (λ (w : List (List ℕ)). w ++ (k.in_order c).0) (messages_on-append c r.told r.waiting)
+            ∙ append_assoc (told r c) (messages_on c r.waiting) (k.in_order c).0,
       );
       whole = λ has c.
           let done = k.peer_closed (Contains-append_left r.told r.waiting event.PeerClosed has) in

@@ -6,8 +6,8 @@ use Rattle.std.specs.List.{filter}
 use Rattle.std.proofs.lemmas.List.{append_assoc, append-nil, length-append}
 use Rattle.gs_enet_wire.specs.Grammar.{command_spelling}
 use Rattle.gs_enet.specs.declared.answer.Answer.{Answer}
-use Rattle.gs_enet.specs.Record.{PeerRecord, Unacknowledged, is_shut}
-use Rattle.gs_enet.specs.Write.{Item, Answers, Orders, item_command, due_if, is_due, going_out, fitting, next_items, datagram_room, header_room, written_once}
+use Rattle.gs_enet.specs.Record.{PeerRecord, Unacknowledged, datagram_room, is_shut}
+use Rattle.gs_enet.specs.Write.{Item, Answers, Orders, item_command, due_if, is_due, going_out, fitting, next_items, header_room, written_once}
 use Rattle.gs_enet.specs.Write.{first_written}
 use Rattle.gs_enet.specs.World.{Written, one_written}
 use Rattle.gs_enet.proofs.Lists.{Each, each_map, each_append, each_filter}

@@ -4,7 +4,7 @@ use Rattle.std.specs.List.{filter, All}
 use Rattle.std.specs.Option.{option_map}
 use Rattle.gs_enet.specs.declared.held.Held.{Held}
 use Rattle.gs_enet.specs.declared.channel.Channel.{Channel}
-use Rattle.gs_enet.specs.Record.{Content, Message, Order, Unacknowledged, fresh, last_number}
+use Rattle.gs_enet.specs.Record.{Content, Message, Order, Unacknowledged, window_span, fresh, last_number}
 use Rattle.gs_enet.specs.Receive.{is_named}
 use Rattle.gs_enet.specs.Steps.{is_lost, due_again}
 use Rattle.gs_enet.specs.Window.{in_window, passes, held_due}
@@ -78,7 +78,7 @@ AreNew chs n = (length chs ≡ n) × All IsNewChannel chs
 
 -- the window is full, or there is no further number
 abbrev pub is_channel_full : Channel → Bool
-is_channel_full ch = (length ch.window.items == 256) || (next_of ch == last_number)
+is_channel_full ch = (length ch.window.items == window_span) || (next_of ch == last_number)
 
 -- no channel has a place in its window
 abbrev pub AreEmpty : List Channel → Type 0

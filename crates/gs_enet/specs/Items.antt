@@ -9,7 +9,7 @@ use Rattle.gs_enet.specs.Puts.{PutsIfFits}
 use Rattle.gs_enet.specs.declared.channel.Channel.{Channel}
 use Rattle.gs_enet.specs.declared.control.Control.{Control}
 use Rattle.gs_enet.specs.declared.peer.Peer.{Peer}
-use Rattle.gs_enet.specs.Record.{PeerRecord, Message, Order, Unacknowledged, is_shut}
+use Rattle.gs_enet.specs.Record.{PeerRecord, Message, Order, Unacknowledged, channels, most_message, datagram_room, is_shut}
 use Rattle.gs_enet.specs.Write.{Item, is_due, going_out, item_command, having_written}
 use Rattle.gs_enet.specs.Channels.{channel_held, all_held, SameHeld, WritesFirst, HasDue}
 use Rattle.gs_enet.specs.Controls.{control_held}
@@ -23,7 +23,7 @@ pub record IsFirstDue (c number : ℕ) (bytes : List ℕ) (ch : Channel) : Type 
   pub rest : List Unacknowledged
   pub front : filter is_due (channel_held c ch) ≡ u ∷ rest
   pub order : u.order ≡ record { content = Message bytes; channel = c; number = number }
-  pub short : length bytes ≤ 1024
+  pub short : length bytes ≤ most_message
 
 -- it was written, if it fits
 abbrev pub MessageIf : ℕ → Command → ℕ → Option ℕ → Channel → Channel → List ℕ → List ℕ → Type 0
@@ -52,7 +52,7 @@ HasNoControlDue p = filter is_due (control_held p.control) ≡ []
 
 -- no message of a channel before is to be written, and one of this channel is
 pub record HasMessageDue (c : ℕ) (p : Peer) : Type 0 where
-  pub below : c < 48
+  pub below : c < channels
   pub before : filter is_due (all_held 0 (take c p.channels.items)) ≡ []
   pub there : (d : Channel) → HasDue (slice_index_or p.channels.items c d)
 
@@ -74,15 +74,15 @@ pub record IsTooLong (r : PeerRecord) (place : ℕ) : Type 0 where
   pub item : Item
   pub rest : List Item
   pub front : going_out r ≡ item ∷ rest
-  pub long : 1392 < place + length (command_spelling (item_command r item))
-  pub short : length (command_spelling (item_command r item)) ≤ 1030
+  pub long : datagram_room < place + length (command_spelling (item_command r item))
+  pub short : length (command_spelling (item_command r item)) ≤ most_message + 6
 
 -- the first item was written
 pub record WritesItem (r : PeerRecord) (place end : ℕ) (new : Peer) (before after : List ℕ) : Type 0 where
   pub item : Item
   pub rest : List Item
   pub front : going_out r ≡ item ∷ rest
-  pub fits : end ≤ 1392
+  pub fits : end ≤ datagram_room
   pub put : Puts (command_spelling (item_command r item)) place end before after
   pub fit : Fit (all_fields (item_command r item))
   pub stands : StandsFor new (having_written 1 r)

@@ -1,11 +1,9 @@
 -- What holds of two sides, whatever happens.
 use Rattle.std.specs.Prelude.{ℕ, ◌≡◌, List, ◌++◌, Contains}
+use Rattle.gs_bytes.specs.Prefix.{IsPrefixOf}
 use Rattle.gs_enet.specs.declared.event.PeerEvent.TheVariants as event
 use Rattle.gs_enet.specs.Record.{PeerRecord, given_on, messages_on, told, heard}
 use Rattle.gs_enet.specs.World.{Event, Opening, start, run, AllNear}
-
-abbrev pub IsPrefixOf : List (List ℕ) → List (List ℕ) → Type 0
-IsPrefixOf xs ys = (rest : List (List ℕ)) × (xs ++ rest ≡ ys)
 
 -- What the one side gave and what the other told, on every channel. What was told is what was given first, in order;
 -- once the other side told that this one disconnected, it is all of it. Once this side heard that its own disconnect

@@ -2,6 +2,7 @@
 use Rattle.std.specs.Prelude.{ℕ, ◌-◌, ◌^◌, ◌==◌, Bool, true, false, if◌then◌else◌, List, [], ◌∷◌, ◌++◌, length, map, max, Option, Some, None}
 use Rattle.std.specs.List.{filter}
 use Rattle.gs_enet.specs.declared.answer.Answer.{Answer}
+use Rattle.gs_enet.specs.declared.limits.TheConstants.{CHANNELS, CONTROL, NOBODY, MOST_MESSAGE, DATAGRAM_ROOM, WINDOW_SPAN}
 use Rattle.gs_enet.specs.declared.event.PeerEvent.{PeerEvent}
 use Rattle.gs_enet.specs.declared.event.PeerEvent.TheVariants as event
 use Rattle.gs_enet.specs.declared.state.PeerState.{PeerState}
@@ -9,11 +10,27 @@ use Rattle.gs_enet.specs.declared.state.PeerState.TheVariants as state
 
 -- how many channels carry messages
 abbrev pub channels : ℕ
-channels = 48
+channels = CHANNELS
 
 -- the channel of the commands that are no messages
 abbrev pub control : ℕ
-control = 255
+control = CONTROL
+
+-- the id by which no side is addressed
+abbrev pub nobody : ℕ
+nobody = NOBODY
+
+-- the most bytes of a message
+abbrev pub most_message : ℕ
+most_message = MOST_MESSAGE
+
+-- the most bytes of a datagram that a side writes
+abbrev pub datagram_room : ℕ
+datagram_room = DATAGRAM_ROOM
+
+-- how many numbers the window of a channel spans
+abbrev pub window_span : ℕ
+window_span = WINDOW_SPAN
 
 -- no message has this number
 abbrev pub last_number : ℕ

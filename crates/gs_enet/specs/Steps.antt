@@ -3,9 +3,10 @@ use Rattle.std.specs.Prelude.{ℕ, ◌+◌, ◌-◌, ◌*◌, ◌^◌, ◌%◌, 
 use Rattle.std.specs.List.{list_any}
 use Rattle.gs_enet.specs.declared.event.PeerEvent.{PeerEvent}
 use Rattle.gs_enet.specs.declared.event.PeerEvent.TheVariants as event
+use Rattle.gs_enet.specs.declared.limits.TheConstants.{MOST_WRITES}
 use Rattle.gs_enet.specs.declared.state.PeerState.{PeerState}
 use Rattle.gs_enet.specs.declared.state.PeerState.TheVariants as state
-use Rattle.gs_enet.specs.Record.{PeerRecord, Message, Order, Unacknowledged, last_number, given_count, is_shut, at_moment, happened, shut, fresh}
+use Rattle.gs_enet.specs.Record.{PeerRecord, Message, Order, Unacknowledged, window_span, last_number, given_count, is_shut, at_moment, happened, shut, fresh}
 use Rattle.gs_enet.specs.Receive.{leaving}
 
 -- ---- send
@@ -19,7 +20,7 @@ next_number r channel = given_count r channel + 1
 abbrev pub is_full : PeerRecord → ℕ → Bool
 is_full r channel =
     list_any
-    (λ (u : Unacknowledged). (u.order.channel == channel) && nat_le (u.order.number + 256) (next_number r channel))
+    (λ (u : Unacknowledged). (u.order.channel == channel) && nat_le (u.order.number + window_span) (next_number r channel))
     r.unacknowledged
     || nat_le last_number (next_number r channel)
 
@@ -86,7 +87,7 @@ wait_after n = min 4000 (500 * 2 ^ (n - 1))
 
 -- the most writings of one command
 abbrev pub most_writes : ℕ
-most_writes = 13
+most_writes = MOST_WRITES
 
 -- the command was written, and its wait has passed
 abbrev pub has_waited : ℕ → Unacknowledged → Bool

@@ -6,7 +6,9 @@ use Rattle.gs_enet_wire.specs.declared.command.Command.TheVariants as command
 use Rattle.gs_enet_wire.specs.declared.datagram.Datagram.{Datagram}
 use Rattle.gs_enet_wire.specs.Grammar.{command_spelling}
 use Rattle.gs_enet.specs.declared.answer.Answer.{Answer}
-use Rattle.gs_enet.specs.Record.{PeerRecord, Content, Connect, VerifyConnect, Disconnect, Message, Order, Unacknowledged, control, is_shut, at_moment}
+use Rattle.gs_enet.specs.declared.limits.TheConstants.{WINDOW_BYTES, THROTTLE_INTERVAL, THROTTLE_STEP}
+use Rattle.gs_enet.specs.Record.{PeerRecord, Content, Connect, VerifyConnect, Disconnect, Message, Order, Unacknowledged}
+use Rattle.gs_enet.specs.Record.{channels, control, nobody, datagram_room, is_shut, at_moment}
 
 -- ---- commands on the wire
 
@@ -29,21 +31,22 @@ connect_command r number =
       peer = r.own;
       incoming = 0;
       outgoing = 0;
-      mtu = 1392;
-      window = 65536;
-      channels = 48;
+      mtu = datagram_room;
+      window = WINDOW_BYTES;
+      channels = channels;
       incoming_bandwidth = 0;
       outgoing_bandwidth = 0;
-      throttle_interval = 5000;
-      acceleration = 2;
-      deceleration = 2;
+      throttle_interval = THROTTLE_INTERVAL;
+      acceleration = THROTTLE_STEP;
+      deceleration = THROTTLE_STEP;
       connect_id = r.connect_id;
       extra = unwrap_or r.extra 0;
     })
 
 abbrev pub verify_command : PeerRecord → ℕ → Command
 verify_command r number =
-    command.VerifyConnect control (wire_number number) true r.own 0 0 1392 65536 48 0 0 5000 2 2 r.connect_id
+    command.VerifyConnect control (wire_number number) true r.own 0 0 datagram_room WINDOW_BYTES channels 0 0
+    THROTTLE_INTERVAL THROTTLE_STEP THROTTLE_STEP r.connect_id
 
 abbrev pub order_command : Content → ℕ → ℕ → PeerRecord → Command
 order_command Connect channel number r = connect_command r number
@@ -57,10 +60,7 @@ item_command r (Orders o) = order_command o.content o.channel o.number r
 
 -- ---- the next datagram
 
--- the most bytes of a datagram, and of its header
-abbrev pub datagram_room : ℕ
-datagram_room = 1392
-
+-- the bytes of a datagram's header
 abbrev pub header_room : ℕ
 header_room = 4
 
@@ -117,7 +117,7 @@ wrote_next now r = having_written (length (next_items (at_moment now r))) (at_mo
 -- the id by which the other side is addressed: its low 12 bits, and 4095 while it isn't known
 abbrev pub address : Option ℕ → ℕ
 address (Some other) = other % 4096
-address None = 4095
+address None = nobody
 
 abbrev pub datagram_of : PeerRecord → List Item → Datagram
 datagram_of r items = record {

@@ -1,8 +1,9 @@
 //! Which channels may have a message that is to be written.
 
 ghost use Rattle.std.specs.Prelude.{ℕ, ◌≡◌, ◌≤◌, ◌<◌, ◌+◌};
+ghost use Rattle.gs_enet.specs.Record.{channels};
 
-use crate::new_channels::CHANNELS;
+use crate::limits::CHANNELS;
 
 /// The channels from one place up to another. No other has a message that is to be written.
 #[derive(Clone, Copy)]
@@ -10,7 +11,7 @@ pub struct Busy {
     pub from: usize,
     pub to: usize,
     ghost order: { from ≤ to },
-    ghost within: { to ≤ 48 },
+    ghost within: { to ≤ channels },
 }
 
 impl Busy {
@@ -25,7 +26,7 @@ impl Busy {
 
     pub fn all() -> Busy
         ensures from { result.from ≡ 0 }
-        ensures to { result.to ≡ 48 }
+        ensures to { result.to ≡ channels }
     {
         Busy {
             from: 0,
@@ -35,7 +36,7 @@ impl Busy {
 
     /// Takes a channel in.
     pub fn add(&mut self, place: usize)
-        requires { place < 48 }
+        requires { place < channels }
         ensures place { IsIn place self.new }
         ensures others { (i : ℕ) → IsIn i self.old → IsIn i self.new }
     {

@@ -3,16 +3,15 @@
 
 ghost use Rattle.std.specs.Prelude.{◌≡◌, ◌≤◌, ◌<◌, ◌+◌, ◌%◌, ◌^◌, [], false, true, length, take};
 ghost use Rattle.std.specs.List.{list_any};
+ghost use Rattle.gs_enet.specs.Record.{most_message, datagram_room, window_span};
 ghost use Rattle.gs_enet.specs.Window.{passes, held_due, front_is_held};
 
 use crate::held::Held;
+use crate::limits::WINDOW_SPAN;
 use crate::window;
 use gs_bytes::{OutOfMemory, Text};
 use std::alloc::Global;
 use std::collections::VecDeque;
-
-/// How many numbers the window of a channel spans.
-pub const WINDOW: usize = 256;
 
 /// A channel. Messages are numbered from 1, without wrap.
 #[derive(Drop)]
@@ -27,7 +26,7 @@ pub struct Channel {
     pub heard: u64,
     ghost counted: { heard + 1 < 2 ^ 64 },
     ghost numbered: { first + length window.items < 2 ^ 64 },
-    ghost spans: { length window.items ≤ 256 },
+    ghost spans: { length window.items ≤ window_span },
     ghost begins: { front_is_held window.items ≡ true },
     ghost within: { next_due ≤ length window.items },
     ghost none_due: { list_any (passes held_due) (take next_due window.items) ≡ false },
@@ -47,6 +46,7 @@ impl Channel {
       WritesFirst,
     };
     ghost use Rattle.gs_enet.specs.Busy.{IsSettled};
+    ghost use Rattle.gs_enet.specs.Receive.{distance, is_next, is_behind};
     ghost use Rattle.gs_enet.specs.Items.{WritesMessage};
 
     pub fn new(alloc: Global) -> Channel
@@ -76,16 +76,37 @@ impl Channel {
         self.heard + 1
     }
 
+    /// How far a number on the wire is ahead of the next message's, modulo 65,536.
+    fn distance(&self, number: u16) -> u16
+        ensures { result ≡ distance number (self.now.heard + 1) }
+    {
+        number.wrapping_sub((self.expected() % 65536) as u16)
+    }
+
+    /// Whether a message of the other side with that number on the wire is the next one.
+    pub fn is_next(&self, number: u16) -> bool
+        ensures { result ≡ is_next number (self.now.heard + 1) }
+    {
+        self.distance(number) == 0 && self.expected() < u64::MAX
+    }
+
+    /// Whether a message of the other side with that number on the wire was heard before.
+    pub fn is_behind(&self, number: u16) -> bool
+        ensures { result ≡ is_behind number (self.now.heard + 1) }
+    {
+        self.distance(number) >= 32768
+    }
+
     /// Whether no further message can be given.
     pub fn is_full(&self) -> bool
         ensures { result ≡ is_channel_full self.now }
     {
-        self.window.len() == WINDOW || self.next() == u64::MAX
+        self.window.len() == WINDOW_SPAN || self.next() == u64::MAX
     }
 
     /// Adds a message to the window.
     pub fn give(&mut self, bytes: Text) -> Result<(), OutOfMemory>
-        requires short { length bytes ≤ 1024 }
+        requires short { length bytes ≤ most_message }
         requires room { is_channel_full self.old ≡ false }
         ensures given { OnOk result (GivesOne bytes self.old self.new) }
         ensures err { OnErr result (SameHeld self.old self.new) }
@@ -151,8 +172,8 @@ impl Channel {
     /// the place behind it.
     pub fn write(&mut self, index: u8, now: u32, out: &mut [u8], place: usize) -> Option<usize>
         requires due { HasDue self.old }
-        requires place { place ≤ 1392 }
-        requires room { 1392 ≤ length out.old }
+        requires place { place ≤ datagram_room }
+        requires room { datagram_room ≤ length out.old }
         ensures { WritesMessage index now place result self.old self.new out.old out.new }
     {
         let number = self.number_due();

@@ -2,7 +2,8 @@
 
 ghost use Rattle.std.specs.Prelude.{◌≡◌, ◌≤◌, ◌<◌, false, true};
 
-use crate::held::{MOST_WRITES, wait_after};
+use crate::held::wait_after;
+use crate::limits::MOST_WRITES;
 
 /// Which command it is.
 #[derive(Clone, Copy, Debug, PartialEq, Eq)]

@@ -1,13 +1,12 @@
 //! A message that isn't acknowledged yet.
 
 ghost use Rattle.std.specs.Prelude.{◌≡◌, ◌≤◌, true, length, min, ◌*◌, ◌-◌, ◌^◌};
+ghost use Rattle.gs_enet.specs.Record.{most_message, datagram_room};
 
-use crate::writing::DATAGRAM;
+use crate::limits::{DATAGRAM_ROOM, MOST_WRITES};
 use gs_bytes::Text;
 use gs_enet_wire::write_reliable;
 
-/// The most writings of one command.
-pub const MOST_WRITES: u8 = 13;
 /// How long the first writing of a command waits for its acknowledgement, and the longest wait, in
 /// milliseconds.
 const FIRST_WAIT: u32 = 500;
@@ -35,7 +34,7 @@ pub struct Held {
     pub writes: u8,
     pub written: u32,
     pub due: bool,
-    ghost short: { length bytes ≤ 1024 },
+    ghost short: { length bytes ≤ most_message },
     ghost few: { writes ≤ 13 },
     ghost again: { due ≡ true → writes ≤ 12 },
 }
@@ -62,11 +61,11 @@ impl Held {
     /// Writes the message as one of that channel and number from the place on, if it fits, and
     /// answers the place behind it.
     pub fn put(&self, channel: u8, number: u16, out: &mut [u8], place: usize) -> Option<usize>
-        requires room { 1392 ≤ length out.old }
-        requires place { place ≤ 1392 }
+        requires room { datagram_room ≤ length out.old }
+        requires place { place ≤ datagram_room }
         ensures { PutsIfFits (Reliable channel number true self.now.bytes) place result out.old out.new }
     {
-        if place + RELIABLE + self.bytes.len() > DATAGRAM {
+        if place + RELIABLE + self.bytes.len() > DATAGRAM_ROOM {
             return None;
         }
         Some(write_reliable(out, place, channel, number, self.bytes.as_bytes()))

@@ -3,6 +3,7 @@
 ghost use Rattle.std.specs.Prelude.{◌≡◌, ◌≤◌, ◌<◌, ◌↔◌, IsTrue, None, find, length, slice_index_or};
 ghost use Rattle.std.specs.List.{All, AllZip};
 ghost use Rattle.std.specs.Option.{option_map};
+ghost use Rattle.gs_enet.specs.Record;
 ghost use Rattle.gs_enet.specs.Steps.{is_lost, name_of};
 ghost use Rattle.gs_enet.specs.Channels.{AreEmpty, LostIs, MarksDue, HasDue, AreSame, all_held};
 ghost use Rattle.gs_enet.specs.Busy.{AreIdle};
@@ -19,7 +20,7 @@ pub fn nothing_held(channels: &[Channel]) -> bool
 
 /// The channel and the number of the first message that had its last wait.
 pub fn first_lost(channels: &[Channel], now: u32) -> Option<(u8, u64)>
-    requires { length channels.now ≤ 48 }
+    requires { length channels.now ≤ Record.channels }
     ensures { result ≡ option_map name_of (find (is_lost now) (all_held 0 channels.now)) }
 {
     for (index, channel) in channels.iter().enumerate() {

@@ -2,6 +2,7 @@
 
 ghost use Rattle.std.specs.Prelude.{◌≡◌, ◌≤◌, ◌<◌, ◌+◌, false, IfOk, vec_len};
 ghost use Rattle.std.specs.VecDeque.{deque_len, deque_capacity};
+ghost use Rattle.gs_enet.specs.Record;
 ghost use Rattle.gs_enet.specs.Record.{is_shut};
 ghost use Rattle.gs_enet.specs.Controls.{has_left};
 ghost use Rattle.gs_enet.specs.Busy.{AreIdle};
@@ -13,7 +14,7 @@ use crate::control::{Control, ControlKind};
 use crate::new_channels::new_channels;
 use crate::{PeerEvent, PeerState};
 use gs_bytes::OutOfMemory;
-use gs_enet_wire::Connect;
+use gs_enet_wire::{Command, Connect};
 use std::alloc::Global;
 use std::collections::VecDeque;
 
@@ -33,7 +34,9 @@ pub struct Peer {
     pub(crate) busy: Busy,
     pub(crate) waiting: VecDeque<PeerEvent>,
     pub(crate) pending: VecDeque<Answer>,
-    ghost all: { vec_len channels ≡ 48 },
+    /// Kept for the commands of a datagram that is read, from one to the next.
+    pub(crate) commands: Vec<Command>,
+    ghost all: { vec_len channels ≡ Record.channels },
     ghost idle: { AreIdle busy.from busy.to channels.items },
     // The loss of the connection can always be told.
     ghost room: { is_shut state ≡ false → deque_len waiting + 1 ≤ deque_capacity waiting },
@@ -70,6 +73,7 @@ impl Peer {
             busy: Busy::none(),
             waiting: VecDeque::with_capacity(alloc, 2)?,
             pending: VecDeque::new(alloc),
+            commands: Vec::new(alloc),
         })
     }
 
@@ -92,6 +96,7 @@ impl Peer {
             busy: Busy::none(),
             waiting: VecDeque::with_capacity(alloc, 2)?,
             pending: VecDeque::new(alloc),
+            commands: Vec::new(alloc),
         })
     }
 }

@@ -1,7 +1,7 @@
 //! What a peer reads.
 
 ghost use Rattle.std.specs.Prelude.{◌≡◌, ◌<◌, not};
-ghost use Rattle.gs_enet.specs.Record.{PeerRecord, owing, happened, shut};
+ghost use Rattle.gs_enet.specs.Record.{PeerRecord, channels, control, owing, happened, shut};
 ghost use Rattle.gs_enet.specs.Receive.{acknowledge_came, connected, message_came, verify_came, disconnect_came, other_came, expected, is_connect};
 ghost use Rattle.gs_enet.specs.Standing.{StandsFor};
 ghost use Rattle.gs_enet.specs.Events.{IsQuiet};
@@ -11,6 +11,7 @@ ghost use Rattle.gs_enet.specs.Controls.{control_held};
 
 use crate::answer::Answer;
 use crate::control::{Control, ControlKind};
+use crate::limits::CONTROL;
 use crate::timing::keep_answers_to_disconnect;
 use crate::{Peer, PeerEvent, PeerState};
 use gs_bytes::Text;
@@ -89,12 +90,11 @@ impl Peer {
         if place >= self.channels.len() || !self.state.takes_messages() {
             return;
         }
-        let expected = self.channels[place].expected();
-        let distance = number.wrapping_sub((expected % 65536) as u16);
-        if distance == 0 && expected < u64::MAX {
+        let known = &self.channels[place];
+        if known.is_next(number) {
             self.tell(channel, bytes);
             self.owe(answer);
-        } else if distance >= 32768 {
+        } else if known.is_behind(number) {
             self.owe(answer);
         }
     }
@@ -102,7 +102,7 @@ impl Peer {
     /// Has the next message of a channel wait to be told.
     fn tell(&mut self, channel: u8, bytes: Text)
         requires room { HasEventRoom self.old }
-        requires channel { channel < 48 }
+        requires channel { channel < channels }
         requires number { HearsMore channel self.old }
         ensures stands { (r : PeerRecord) → StandsFor self.old r
             → StandsFor self.new (happened (PeerEvent.Message channel (expected r channel) bytes) r) }
@@ -152,7 +152,7 @@ impl Peer {
             → StandsFor self.new (acknowledge_came channel number r) }
         ensures grows { Grows 1 0 self.old self.new }
     {
-        if channel == 255 {
+        if channel == CONTROL {
             self.acknowledge_control(number);
             return;
         }
@@ -170,7 +170,7 @@ impl Peer {
     fn acknowledge_control(&mut self, number: u16)
         requires { HasEventRoom self.old }
         ensures stands { (r : PeerRecord) → StandsFor self.old r
-            → StandsFor self.new (acknowledge_came 255 number r) }
+            → StandsFor self.new (acknowledge_came control number r) }
         ensures grows { Grows 1 0 self.old self.new }
     {
         let Some(control) = self.control else {

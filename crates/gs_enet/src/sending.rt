@@ -1,7 +1,7 @@
 //! Messages and events, between a peer and its user.
 
 ghost use Rattle.std.specs.Prelude.{◌≤◌, ◌<◌, length};
-ghost use Rattle.gs_enet.specs.Record.{PeerRecord};
+ghost use Rattle.gs_enet.specs.Record.{PeerRecord, channels, most_message};
 ghost use Rattle.gs_enet.specs.Standing.{StandsFor};
 ghost use Rattle.gs_enet.specs.Outcomes.{Sends, TellsNext};
 
@@ -11,9 +11,9 @@ use gs_bytes::Text;
 impl Peer {
     /// Gives a message to be sent on a channel, and answers its number there, from 1.
     pub fn send(&mut self, channel: u8, bytes: &[u8]) -> Result<u64, SendError>
-        requires channel { channel < 48 }
+        requires channel { channel < channels }
         requires some { 1 ≤ length bytes.now }
-        requires short { length bytes.now ≤ 1024 }
+        requires short { length bytes.now ≤ most_message }
         ensures { (r : PeerRecord) → StandsFor self.old r → Sends r channel bytes.now result self.new }
     {
         if !self.state.is_open() {

@@ -1,7 +1,7 @@
 //! Datagrams that come.
 
 ghost use Rattle.std.specs.Prelude.{ℕ, None, is_some, ◌≡◌, ◌⊎◌, ◌≤◌, ◌+◌, Ok, Err, IfOk, IfErr, OnOk, OnErr, length};
-ghost use Rattle.gs_enet_wire.specs.Grammar.{IsFaultAt, head};
+ghost use Rattle.gs_enet_wire.specs.Grammar.{most_datagram, IsFaultAt, head};
 ghost use Rattle.gs_enet.specs.Record.{PeerRecord};
 ghost use Rattle.gs_enet.specs.Receive.{received, all_received, answer_to};
 ghost use Rattle.gs_enet.specs.Standing.{StandsFor};
@@ -11,9 +11,10 @@ ghost use Rattle.gs_enet.specs.Rooms.{message_bytes, HasRooms, HasEventRoom, Has
 use crate::answer::Answer;
 use crate::{Peer, TakeError};
 use gs_bytes::Text;
-use gs_enet_wire::{Command, Commands, WireError, read};
+use gs_enet_wire::{Command, WireError, read_into};
 use std::alloc::AllocError;
 use std::collections::VecDeque;
+use std::mem::replace;
 
 impl Peer {
     /// Reads a datagram that came at that moment. After an error the peer is as before.
@@ -26,22 +27,56 @@ impl Peer {
         ensures bad_only { (place : ℕ) → IsFaultAt datagram.now place
             → (result ≡ Err (TakeError.BadDatagram place)) ⊎ (result ≡ Err TakeError.OutOfMemory) }
     {
-        let datagram = match read(*self.pending.allocator(), datagram) {
-            Ok(datagram) => datagram,
+        let mut commands = self.lend_commands();
+        let taken = self.take_by(&mut commands, datagram, now);
+        self.keep_commands(commands);
+        taken
+    }
+
+    /// The vector that is kept for the commands of datagrams.
+    fn lend_commands(&mut self) -> Vec<Command>
+        ensures { (r : PeerRecord) → StandsFor self.old r → StandsFor self.new r }
+    {
+        let none = Vec::new(*self.commands.allocator());
+        replace(&mut self.commands, none)
+    }
+
+    /// Takes that vector back.
+    fn keep_commands(&mut self, commands: Vec<Command>)
+        ensures { (r : PeerRecord) → StandsFor self.old r → StandsFor self.new r }
+    {
+        self.commands = commands;
+    }
+
+    /// Reads a datagram by means of a vector for its commands.
+    fn take_by(
+        &mut self,
+        commands: &mut Vec<Command>,
+        datagram: &[u8],
+        now: u32,
+    ) -> Result<(), TakeError>
+        ensures taken { IfOk result (λ _. Takes datagram.now now self.old self.new) }
+        ensures refused { OnErr result ((r : PeerRecord) → StandsFor self.old r → StandsFor self.new r) }
+        ensures bad { IfErr result (IsTakeFault datagram.now) }
+        ensures bad_only { (place : ℕ) → IsFaultAt datagram.now place
+            → (result ≡ Err (TakeError.BadDatagram place)) ⊎ (result ≡ Err TakeError.OutOfMemory) }
+    {
+        let header = match read_into(datagram, commands) {
+            Ok(header) => header,
             Err(WireError::BadDatagram(place)) => return Err(TakeError::BadDatagram(place)),
             Err(WireError::OutOfMemory) => return Err(TakeError::OutOfMemory),
         };
-        let Ok(()) = self.make_room(datagram.commands.len()) else {
+        let Ok(()) = self.make_room(commands.len()) else {
             return Err(TakeError::OutOfMemory);
         };
         self.see(now);
-        self.receive_all(datagram.sent.unwrap_or(0), datagram.commands);
+        self.receive_all(header.sent.unwrap_or(0), commands);
         Ok(())
     }
 
     /// Makes room for what so many commands may add.
     fn make_room(&mut self, commands: usize) -> Result<(), AllocError>
-        requires { commands ≤ 4096 }
+        requires { commands ≤ most_datagram }
         ensures room { OnOk result (HasRooms commands self.new) }
         ensures same { (r : PeerRecord) → StandsFor self.old r → StandsFor self.new r }
     {
@@ -50,16 +85,18 @@ impl Peer {
         Ok(())
     }
 
-    /// Acts on the commands of a datagram, one after the other.
-    fn receive_all(&mut self, sent: u16, commands: Commands)
-        requires { HasRooms (length commands) self.old }
+    /// Acts on the commands of a datagram, one after the other, and leaves the vector without them.
+    fn receive_all(&mut self, sent: u16, commands: &mut Vec<Command>)
+        requires { HasRooms (length commands.old.items) self.old }
         ensures { (r : PeerRecord) → StandsFor self.old r
-            → StandsFor self.new (all_received sent commands r) }
+            → StandsFor self.new (all_received sent commands.old.items r) }
     {
-        let mut rest = VecDeque::from_vec(commands.into_vec());
+        let none = Vec::new(*commands.allocator());
+        let mut rest = VecDeque::from_vec(replace(commands, none));
         'commands: while let Some(command) = rest.pop_front() {
             self.receive(sent, command);
         }
+        *commands = rest.into_vec();
     }
 
     /// Acts on one command of a datagram with that sent time.

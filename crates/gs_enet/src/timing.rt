@@ -13,6 +13,7 @@ ghost use Rattle.gs_enet.specs.Controls.{control_held};
 use crate::answer::Answer;
 use crate::busy::Busy;
 use crate::control::Control;
+use crate::limits::CONTROL;
 use crate::{Peer, PeerEvent, PeerState, holding};
 use std::collections::VecDeque;
 
@@ -47,7 +48,7 @@ impl Peer {
         if let Some(control) = &self.control
             && control.is_lost(self.moment)
         {
-            return Some((255, u64::from(control.number)));
+            return Some((CONTROL, u64::from(control.number)));
         }
         holding::first_lost(&self.channels, self.moment)
     }

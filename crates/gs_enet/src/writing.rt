@@ -1,8 +1,8 @@
 //! What a peer writes.
 
-ghost use Rattle.std.specs.Prelude.{◌≡◌, ◌≢◌, ◌≤◌, ◌<◌, [], false, true, Some, IfSome, IfNone, length};
+ghost use Rattle.std.specs.Prelude.{◌≡◌, ◌≢◌, ◌≤◌, ◌<◌, [], false, true, Some, IfSome, IfNone, length, drop};
 ghost use Rattle.gs_enet_wire.specs.Grammar.{payload};
-ghost use Rattle.gs_enet.specs.Record.{PeerRecord, control, is_shut};
+ghost use Rattle.gs_enet.specs.Record.{PeerRecord, control, datagram_room, is_shut};
 ghost use Rattle.gs_enet.specs.Write.{address, order_command};
 ghost use Rattle.gs_enet.specs.Controls.{content_of};
 ghost use Rattle.gs_enet.specs.Standing.{StandsFor};
@@ -10,31 +10,24 @@ ghost use Rattle.gs_enet.specs.Outcomes.{WritesNext};
 ghost use Rattle.gs_enet.specs.Puts.{PutsIfFits};
 ghost use Rattle.gs_enet.specs.Items.{WritesOne, HasControlDue, HasNoControlDue, HasMessageDue, HasNoneDue, IsAsBefore};
 
+use crate::answer::Answer;
 use crate::control::{Control, ControlKind};
+use crate::limits::{
+    CHANNELS, CONTROL, DATAGRAM_ROOM, NOBODY, THROTTLE_INTERVAL, THROTTLE_STEP, WINDOW_BYTES,
+};
 use crate::{Peer, holding};
 use gs_enet_wire::{Command, Connect, write_command, write_header};
+use std::collections::VecDeque;
 
-/// The most bytes of a datagram, and those of its header.
-pub const DATAGRAM: usize = 1392;
-
+/// The bytes of a datagram's header.
 const HEADER: usize = 4;
-/// The profile's constants.
-const CHANNELS: u32 = 48;
-
-const MTU: u32 = 1392;
-
-const WINDOW: u32 = 65536;
-
-const THROTTLE_INTERVAL: u32 = 5000;
-
-const THROTTLE_STEP: u32 = 2;
 
 impl Peer {
     /// Writes the next datagram and answers its length; there is none where nothing is to be
     /// written. The rest of `out` stays as it was.
     pub fn next_out(&mut self, now: u32, out: &mut [u8]) -> Option<usize>
-        requires { 1392 ≤ length out.old }
-        ensures size { IfSome result (λ size. size ≤ 1392) }
+        requires { datagram_room ≤ length out.old }
+        ensures size { IfSome result (λ size. size ≤ datagram_room) }
         ensures written { (r : PeerRecord) → StandsFor self.old r → WritesNext r now result self.new out.old out.new }
     {
         self.see(now);
@@ -55,16 +48,16 @@ impl Peer {
     {
         match self.other {
             Some(other) => other % 4096,
-            None => 4095,
+            None => NOBODY,
         }
     }
 
     /// Writes the first of what is to be written from the place on, if it fits, and answers the
     /// place behind it.
     fn write_item(&mut self, out: &mut [u8], place: usize) -> Option<usize>
-        requires room { 1392 ≤ length out.old }
-        requires place { place ≤ 1392 }
-        ensures end { IfSome result (λ end. (place < end) × (end ≤ 1392)) }
+        requires room { datagram_room ≤ length out.old }
+        requires place { place ≤ datagram_room }
+        ensures end { IfSome result (λ end. (place < end) × (end ≤ datagram_room)) }
         ensures written { (r : PeerRecord) → StandsFor self.old r → WritesOne r place result self.new out.old out.new }
     {
         if !self.pending.is_empty() {
@@ -95,10 +88,10 @@ impl Peer {
 
     /// Writes the first answer that is owed.
     fn write_answer(&mut self, out: &mut [u8], place: usize) -> Option<usize>
-        requires room { 1392 ≤ length out.old }
-        requires place { place ≤ 1392 }
+        requires room { datagram_room ≤ length out.old }
+        requires place { place ≤ datagram_room }
         requires some { self.old.pending.items ≢ [] }
-        ensures end { IfSome result (λ end. (place < end) × (end ≤ 1392)) }
+        ensures end { IfSome result (λ end. (place < end) × (end ≤ datagram_room)) }
         ensures written { (r : PeerRecord) → StandsFor self.old r → WritesOne r place result self.new out.old out.new }
     {
         let answer = self.pending[0];
@@ -112,16 +105,16 @@ impl Peer {
         let Some(end) = put_if_fits(out, place, &command) else {
             return None;
         };
-        self.pending.pop_front();
+        drop_first(&mut self.pending);
         Some(end)
     }
 
     /// Writes the command of the control channel.
     fn write_control(&mut self, due: Control, out: &mut [u8], place: usize) -> Option<usize>
-        requires room { 1392 ≤ length out.old }
-        requires place { place ≤ 1392 }
+        requires room { datagram_room ≤ length out.old }
+        requires place { place ≤ datagram_room }
         requires due { HasControlDue due self.old }
-        ensures end { IfSome result (λ end. (place < end) × (end ≤ 1392)) }
+        ensures end { IfSome result (λ end. (place < end) × (end ≤ datagram_room)) }
         ensures written { (r : PeerRecord) → StandsFor self.old r → WritesOne r place result self.new out.old out.new }
     {
         let command = self.control_command(&due);
@@ -142,15 +135,15 @@ impl Peer {
     {
         match held.kind {
             ControlKind::Connect => Command::Connect(Connect {
-                channel: 255,
+                channel: CONTROL,
                 number: held.number,
                 asks: true,
                 peer: self.own,
                 incoming: 0,
                 outgoing: 0,
-                mtu: MTU,
-                window: WINDOW,
-                channels: CHANNELS,
+                mtu: DATAGRAM_ROOM as u32,
+                window: WINDOW_BYTES,
+                channels: CHANNELS as u32,
                 incoming_bandwidth: 0,
                 outgoing_bandwidth: 0,
                 throttle_interval: THROTTLE_INTERVAL,
@@ -160,15 +153,15 @@ impl Peer {
                 extra: self.extra.unwrap_or(0),
             }),
             ControlKind::VerifyConnect => Command::VerifyConnect {
-                channel: 255,
+                channel: CONTROL,
                 number: held.number,
                 asks: true,
                 peer: self.own,
                 incoming: 0,
                 outgoing: 0,
-                mtu: MTU,
-                window: WINDOW,
-                channels: CHANNELS,
+                mtu: DATAGRAM_ROOM as u32,
+                window: WINDOW_BYTES,
+                channels: CHANNELS as u32,
                 incoming_bandwidth: 0,
                 outgoing_bandwidth: 0,
                 throttle_interval: THROTTLE_INTERVAL,
@@ -177,7 +170,7 @@ impl Peer {
                 connect_id: self.connect_id,
             },
             ControlKind::Disconnect => Command::Disconnect {
-                channel: 255,
+                channel: CONTROL,
                 number: held.number,
                 asks: true,
                 extra: 0,
@@ -200,13 +193,13 @@ impl Peer {
 
     /// Writes the first message of that channel that is to be written.
     fn write_message(&mut self, channel: usize, out: &mut [u8], place: usize) -> Option<usize>
-        requires room { 1392 ≤ length out.old }
-        requires place { place ≤ 1392 }
+        requires room { datagram_room ≤ length out.old }
+        requires place { place ≤ datagram_room }
         requires none { self.old.pending.items ≡ [] }
         requires up { is_shut self.old.state ≡ false }
         requires control { HasNoControlDue self.old }
         requires due { HasMessageDue channel self.old }
-        ensures end { IfSome result (λ end. (place < end) × (end ≤ 1392)) }
+        ensures end { IfSome result (λ end. (place < end) × (end ≤ datagram_room)) }
         ensures written { (r : PeerRecord) → StandsFor self.old r → WritesOne r place result self.new out.old out.new }
     {
         let now = self.moment;
@@ -214,14 +207,21 @@ impl Peer {
     }
 }
 
+/// Drops the first of the answers that are owed.
+fn drop_first(pending: &mut VecDeque<Answer>)
+    ensures { pending.new.items ≡ drop 1 pending.old.items }
+{
+    pending.pop_front();
+}
+
 /// Writes a command from the place on, if it fits, and answers the place behind it.
 fn put_if_fits(out: &mut [u8], place: usize, command: &Command) -> Option<usize>
-    requires room { 1392 ≤ length out.old }
-    requires place { place ≤ 1392 }
+    requires room { datagram_room ≤ length out.old }
+    requires place { place ≤ datagram_room }
     requires none { payload command.now ≡ [] }
     ensures { PutsIfFits command.now place result out.old out.new }
 {
-    if place + command.written_length() > DATAGRAM {
+    if place + command.written_length() > DATAGRAM_ROOM {
         return None;
     }
     Some(write_command(out, place, command))

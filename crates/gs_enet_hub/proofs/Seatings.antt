@@ -8,8 +8,8 @@ use Rattle.slab.specs.Slab.{Slab, get, Updates, with_value}
 use Rattle.gs_bytes.specs.declared.addr.Addr.{Addr}
 use Rattle.gs_enet.specs.declared.peer.Peer.{Peer}
 use Rattle.gs_enet_hub.specs.declared.seat.Seat.{Seat}
-use Rattle.gs_enet_hub.specs.Seats.{IsSeatOf, IsTaken}
-use Rattle.gs_enet_hub.specs.Seating.{Seating, Member, member_at, seated, seat_of, member, peer_of, most_peers, is_held, is_shared, IsSeating, place_if}
+use Rattle.gs_enet_hub.specs.Seats.{most_peers, IsSeatOf, IsTaken}
+use Rattle.gs_enet_hub.specs.Seating.{Seating, Member, member_at, seated, seat_of, member, peer_of, is_held, is_shared, IsSeating, place_if}
 use Rattle.gs_enet_hub.specs.Seating.{with_own, with_peer, PutsPeer}
 use Rattle.gs_enet_hub.specs.Routing.{HasAddress, HasName, IsLive}
 
@@ -333,3 +333,8 @@ pub peer_absent : (peers : Slab Peer) (found : Option Seat) (place : ℕ) → fo
     → get peers place ≡ peer_of (seated peers found)
 peer_absent peers found place e past =
     subst (λ (x : Option Seat). get peers place ≡ peer_of (seated peers x)) (sym e) (get_or_past peers.slots place None past)
+
+pub peer_placed : (peers : Slab Peer) (found : Option Seat) (place none : ℕ) → place ≡ place_if none found
+    → (found ≡ None → length peers.slots ≤ place) → get peers place ≡ peer_of (seated peers found)
+peer_placed peers None place none is past = peer_absent peers None place refl (past refl)
+peer_placed peers (Some seat) place none is past = peer_taken peers (Some seat) seat place refl is

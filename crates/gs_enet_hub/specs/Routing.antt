@@ -7,17 +7,14 @@ use Rattle.gs_enet_wire.specs.declared.command.Connect.{Connect}
 use Rattle.gs_enet_wire.specs.declared.datagram.Datagram.{Datagram}
 use Rattle.gs_enet_wire.specs.Grammar.{Spells, IsFaultAt}
 use Rattle.gs_enet.specs.declared.peer.Peer.{Peer}
-use Rattle.gs_enet.specs.Record.{accepting}
+use Rattle.gs_enet.specs.Record.{nobody, accepting}
 use Rattle.gs_enet.specs.Standing.{StandsFor}
 use Rattle.gs_enet_hub.specs.declared.route_error.RouteError.{RouteError}
 use Rattle.gs_enet_hub.specs.declared.route_error.RouteError.TheVariants as route_error
-use Rattle.gs_enet_hub.specs.Seating.{Seating, Member, member, SameMembers, most_peers}
+use Rattle.gs_enet_hub.specs.Seating.{Seating, Member, member, SameMembers}
+use Rattle.gs_enet_hub.specs.Seats.{most_peers}
 
 -- ---- connect datagrams
-
--- the id that addresses no peer
-abbrev pub nobody : ℕ
-nobody = 4095
 
 abbrev pub connect_if : Bool → List Command → Option Connect
 connect_if true (command.Connect c ∷ cs) = Some c

@@ -4,6 +4,7 @@ use Rattle.slab.specs.Slab.{Slab, get, with_value}
 use Rattle.gs_bytes.specs.declared.addr.Addr.{Addr}
 use Rattle.gs_enet.specs.declared.peer.Peer.{Peer}
 use Rattle.gs_enet_hub.specs.declared.seat.Seat.{Seat}
+use Rattle.gs_enet_hub.specs.Seats.{most_peers}
 
 -- the seat of each key, and the peers where the seats say that they stand
 pub record Seating : Type 0 where
@@ -40,10 +41,6 @@ abbrev pub SameMembers : Seating → Seating → Type 0
 SameMembers old new = (key : ℕ) → member new key ≡ member old key
 
 -- ---- what holds of every hub
-
--- the most connections at one time
-abbrev pub most_peers : ℕ
-most_peers = 16
 
 abbrev pub is_held : Slab Peer → Option Seat → Bool
 is_held peers None = true

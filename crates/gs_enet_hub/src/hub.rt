@@ -1,24 +1,22 @@
 //! The hub: its peers by key.
 
-ghost use Rattle.std.specs.Prelude.{ℕ, ◌≡◌, ◌≢◌, ◌⊎◌, None, Ok, Err, IfOk, IfErr, OnErr};
+ghost use Rattle.std.specs.Prelude.{ℕ, ◌≡◌, ◌≢◌, ◌≤◌, ◌⊎◌, None, Ok, Err, IfOk, IfErr, OnErr, length};
 ghost use Rattle.std.specs.Option.{option_copied_mut};
 ghost use Rattle.std.specs.Borrow.{sem};
 ghost use Rattle.gs_enet_wire.specs.declared.datagram.Datagram.{Datagram};
 ghost use Rattle.gs_enet_wire.specs.Grammar.{Spells, IsFaultAt};
 ghost use Rattle.gs_enet_hub.specs.Routing.{Routes, IsRouteFault, RoutesOther};
+ghost use Rattle.gs_enet_hub.specs.Seating.{seat_of, place_if};
 ghost use Rattle.gs_enet_hub.specs.declared.route_error.RouteError.TheVariants as route_error;
 
 use crate::RouteError;
 use crate::seat::{Seat, empty_seats, seat_at};
 use gs_bytes::{Addr, OutOfMemory};
-use gs_enet::Peer;
+use gs_enet::{NOBODY, Peer};
 use gs_enet_wire::{Command, Connect, Datagram, WireError, read};
 use slab::Slab;
 use std::alloc::Global;
 use std::marker::Model;
-
-/// The id of datagrams to no peer.
-const NOBODY: u16 = 4095;
 
 /// Up to 16 peers, each under a key from 0 to 15.
 #[derive(Drop)]
@@ -98,10 +96,7 @@ impl Hub {
         // What is left behind the reference is the peer of that key alone.
         ensures puts { (peer : Peer) → IsLive self.old key → PutsPeer self.old (with_peer self.old key peer) key peer }
     {
-        let place = match seat_at(&self.seats, key) {
-            Some(seat) => seat.place,
-            None => self.peers.capacity(),
-        };
+        let place = place_of(&self.seats, &self.peers, key);
         self.peers.get_mut(place)
     }
 
@@ -114,6 +109,17 @@ impl Hub {
         let seat = seat_at(&self.seats, key)?;
         self.seats[key] = None;
         self.peers.try_remove(seat.place)
+    }
+}
+
+/// Where the peer of a key stands, and a place without one where the key isn't live.
+fn place_of(seats: &[Option<Seat>], peers: &Slab<Peer>, key: usize) -> usize
+    ensures value { result ≡ place_if peers.now.capacity (seat_of seats.now key) }
+    ensures past { seat_of seats.now key ≡ None → length peers.now.slots ≤ result }
+{
+    match seat_at(seats, key) {
+        Some(seat) => seat.place,
+        None => peers.capacity(),
     }
 }
 

@@ -11,10 +11,12 @@
 
 mod hub;
 mod joining;
+mod limits;
 mod route_error;
 mod seat;
 
 pub use hub::Hub;
+pub use limits::MOST_PEERS;
 pub use route_error::RouteError;
 
 #[cfg(test)]

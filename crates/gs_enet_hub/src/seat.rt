@@ -1,13 +1,11 @@
 //! The seats of a hub: for each key where its peer stands, and the name of its connection.
 
 ghost use Rattle.std.specs.Prelude.{◌≡◌, ◌<◌, ℕ, None, true, false, IfSome, IfNone, IfOk, length, replicate, slice_index_or};
-ghost use Rattle.gs_enet_hub.specs.Seats.{IsSeatOf, IsTaken};
+ghost use Rattle.gs_enet_hub.specs.Seats.{most_peers, IsSeatOf, IsTaken};
 
+use crate::limits::MOST_PEERS;
 use gs_bytes::{Addr, OutOfMemory};
 use std::alloc::Global;
-
-/// The most connections at one time.
-pub const MOST_PEERS: usize = 16;
 
 /// Where a connection's peer stands among the peers, and the other side's address and connect id.
 #[derive(Clone, Copy)]
@@ -19,7 +17,7 @@ pub struct Seat {
 
 /// As many seats as there are keys, none of them taken.
 pub fn empty_seats(alloc: Global) -> Result<Vec<Option<Seat>>, OutOfMemory>
-    ensures { IfOk result (λ seats. seats.items ≡ replicate 16 None) }
+    ensures { IfOk result (λ seats. seats.items ≡ replicate most_peers None) }
 {
     Ok(vec![in alloc; None; MOST_PEERS]?)
 }

@@ -9,6 +9,7 @@ use Rattle.gs_enet_wire.specs.declared.command.Connect.{Connect}
 use Rattle.gs_enet_wire.specs.declared.command.Head.{Head}
 use Rattle.gs_enet_wire.specs.declared.read_body.Piece.{Piece}
 use Rattle.gs_enet_wire.specs.declared.datagram.Datagram.{Datagram}
+use Rattle.gs_enet_wire.specs.declared.reading.DatagramHeader.{DatagramHeader}
 use Rattle.gs_enet_wire.specs.declared.error.WireError.{WireError}
 use Rattle.gs_enet_wire.specs.declared.error.WireError.TheVariants.{BadDatagram, OutOfMemory}
 
@@ -202,6 +203,10 @@ sent_field (Some time) = u16 time ∷ []
 
 abbrev pub header : Datagram → List Field
 header d = u16 (header_word d) ∷ sent_field d.sent
+
+-- the datagram of that header and those commands
+abbrev pub with_header : DatagramHeader → List Command → Datagram
+with_header h cs = record { peer = h.peer; session = h.session; sent = h.sent; commands = cs }
 
 -- the header's numbers fit their bits
 pub record HasHeader (d : Datagram) : Type 0 where

@@ -1,11 +1,10 @@
 -- Cited by private contracts alone: what a reader takes of a header, and of all the commands.
 use Rattle.std.specs.Prelude.{◌≡◌, ℕ, ◌/◌, Bool, List, [], ◌++◌, Option, is_some}
 use Rattle.gs_enet_wire.specs.declared.command.Command.{Command}
-use Rattle.gs_enet_wire.specs.declared.datagram.Datagram.{Datagram}
 use Rattle.gs_enet_wire.specs.declared.error.WireError.{WireError}
 use Rattle.gs_enet_wire.specs.declared.error.WireError.TheVariants.{BadDatagram, OutOfMemory}
-use Rattle.gs_enet_wire.specs.declared.reading.Header.{Header}
-use Rattle.gs_enet_wire.specs.Grammar.{fields_bytes, Fit, asking, sent_field, header, HasHeader, AreCommands, StopsAt}
+use Rattle.gs_enet_wire.specs.declared.reading.DatagramHeader.{DatagramHeader}
+use Rattle.gs_enet_wire.specs.Grammar.{fields_bytes, Fit, asking, sent_field, header, HasHeader, with_header, AreCommands, StopsAt}
 
 -- the old bytes are the sent time, where the header's first two bytes say that there is one, and then the new bytes
 pub record TakesTime (word : ℕ) (sent : Option ℕ) (old new : List ℕ) : Type 0 where
@@ -13,12 +12,8 @@ pub record TakesTime (word : ℕ) (sent : Option ℕ) (old new : List ℕ) : Typ
   pub parts : old ≡ fields_bytes (sent_field sent) ++ new
   pub fit : Fit (sent_field sent)
 
--- a datagram with that header
-abbrev pub with_header : Header → List Command → Datagram
-with_header h cs = record { peer = h.peer; session = h.session; sent = h.sent; commands = cs }
-
 -- the old bytes are the header, and then the new bytes
-pub record TakesHeader (h : Header) (old new : List ℕ) : Type 0 where
+pub record TakesHeader (h : DatagramHeader) (old new : List ℕ) : Type 0 where
   pub has_header : HasHeader (with_header h [])
   pub parts : old ≡ fields_bytes (header (with_header h [])) ++ new
 

@@ -3,8 +3,9 @@
 //! A datagram is a header and one or more of the protocol's twelve commands, up to its end. Numbers
 //! are in network byte order. The grammar is a definition on bytes and values (`specs/Grammar.antt`),
 //! with the protocol's field names. `read` answers the one datagram that the bytes spell, or the
-//! place of the first fault; `write` writes the datagram's spelling with each ignored bit at 0.
-//! `write_header`, `write_command` and `write_reliable` write that spelling part by part.
+//! place of the first fault, and `read_into` does so by means of a vector that its caller keeps.
+//! `write` writes the datagram's spelling with each ignored bit at 0; `write_header`,
+//! `write_command` and `write_reliable` write that spelling part by part.
 #![tactic(auto)]
 
 mod command;
@@ -25,7 +26,7 @@ pub use error::WireError;
 pub use laws::{one_reading, one_spelling, written_is_read};
 pub use limits::MOST_DATAGRAM;
 pub use part::{write_command, write_header, write_reliable};
-pub use reading::read;
+pub use reading::{DatagramHeader, read, read_into};
 pub use writing::write;
 
 #[cfg(test)]

@@ -1,7 +1,7 @@
 //! A datagram, read from all of the bytes: its header, and command after command.
 
-ghost use Rattle.std.specs.Prelude.{◌≡◌, ◌+◌, ◌*◌, ◌/◌, ◌<◌, ◌≤◌, length, IfOk, IfErr, OnOk, OnErr, IsErrOf, ◌⊎◌, ℕ, Ok, Err};
-ghost use Rattle.gs_enet_wire.specs.Grammar.{IsFault, most_datagram, BeginsNoCommand, Spells, IsFaultAt, AreCommands, spelling};
+ghost use Rattle.std.specs.Prelude.{◌≡◌, ◌+◌, ◌*◌, ◌/◌, ◌<◌, ◌≤◌, [], length, IfOk, IfErr, OnOk, OnErr, IsErrOf, ◌⊎◌, ℕ, Ok, Err};
+ghost use Rattle.gs_enet_wire.specs.Grammar.{IsFault, most_datagram, with_header, BeginsNoCommand, Spells, IsFaultAt, AreCommands, spelling};
 ghost use Rattle.gs_enet_wire.specs.ReadingHeader.{TakesTime, TakesHeader, StopsWith};
 ghost use Rattle.gs_enet_wire.specs.Reading.{TakesHead, TakesBody, BeginsNoBody, TakesCommand};
 ghost use Rattle.gs_enet_wire.specs.declared.datagram.Datagram.{Datagram};
@@ -28,11 +28,14 @@ pub const SENT_TIME: u16 = 0x8000;
 /// Where the sent time stands.
 const TIME_PLACE: usize = 2;
 
-/// What stands before the commands.
-#[derive(Clone, Copy)]
-pub struct Header {
+/// What stands before the commands of a datagram, which has the same fields.
+#[derive(Clone, Copy, Debug, PartialEq, Eq)]
+pub struct DatagramHeader {
+    /// The receiver's id of the connection (`peerID`), below 4,096.
     pub peer: u16,
+    /// The session (`sessionID`), below 4.
     pub session: u8,
+    /// The sent time (`sentTime`) in milliseconds modulo 65,536, where the header has it.
     pub sent: Option<u16>,
 }
 
@@ -49,7 +52,7 @@ fn sent_time(word: u16, cursor: &mut Cursor<'_>) -> Result<Option<u16>, ReadErro
     Ok(Some(time))
 }
 
-pub fn read_header(cursor: &mut Cursor<'_>) -> Result<Header, WireError>
+pub fn read_header(cursor: &mut Cursor<'_>) -> Result<DatagramHeader, WireError>
     ensures taken { IfOk result (λ h. TakesHeader h cursor.old cursor.new) }
     ensures fault { length cursor.old ≤ most_datagram → IfErr result (IsFault cursor.old) }
 {
@@ -62,7 +65,7 @@ pub fn read_header(cursor: &mut Cursor<'_>) -> Result<Header, WireError>
     let Ok(sent) = sent_time(word, cursor) else {
         return Err(WireError::BadDatagram(TIME_PLACE));
     };
-    Ok(Header {
+    Ok(DatagramHeader {
         peer: word & PEER,
         session: ((word >> SESSION_SHIFT) & SESSION) as u8,
         sent,
@@ -138,19 +141,20 @@ pub fn read_command(
     body(alloc, start.kind, start.head, cursor)
 }
 
-/// The commands that stand behind a header of `start` bytes, up to the end.
+/// Reads the commands that stand behind a header of `start` bytes, up to the end, into the vector.
 fn read_commands(
-    alloc: Global,
     timed: bool,
     start: usize,
     cursor: &mut Cursor<'_>,
-) -> Result<Commands, WireError>
-    requires { start + length cursor.old ≤ most_datagram }
-    ensures read { IfOk result (λ commands. AreCommands timed cursor.old commands) }
+    commands: &mut Vec<Command>,
+) -> Result<(), WireError>
+    requires short { start + length cursor.old ≤ most_datagram }
+    requires none { commands.old.items ≡ [] }
+    ensures read { OnOk result (AreCommands timed cursor.old commands.new.items) }
     ensures fault { IfErr result (StopsWith timed start cursor.old) }
 {
+    let alloc = *commands.allocator();
     let whole = cursor.len();
-    let mut commands = Vec::new(alloc);
     'commands: while cursor.len() > 0 {
         let place = start + (whole - cursor.len());
         match read_command(alloc, timed, cursor) {
@@ -159,7 +163,7 @@ fn read_commands(
             Err(ReadError::OutOfMemory) => return Err(WireError::OutOfMemory),
         }
     }
-    Ok(Commands::from_vec(commands))
+    Ok(())
 }
 
 /// The one datagram that the bytes spell, all of the bytes. Bits that the protocol reserves are
@@ -191,6 +195,33 @@ fn whole(alloc: Global, bytes: &[u8]) -> Result<Datagram, WireError>
     ensures found { IfOk result (λ datagram. Spells bytes.now datagram) }
     ensures fault { IfErr result (IsFault bytes.now) }
 {
+    let mut commands = Vec::new(alloc);
+    let header = read_parts(bytes, &mut commands)?;
+    Ok(Datagram {
+        peer: header.peer,
+        session: header.session,
+        sent: header.sent,
+        commands: Commands::from_vec(commands),
+    })
+}
+
+/// Reads as `read` does, for a reader that keeps a vector from one datagram to the next: answers the
+/// datagram's header, and leaves its commands in the vector in place of what stood there.
+pub fn read_into(bytes: &[u8], commands: &mut Vec<Command>) -> Result<DatagramHeader, WireError>
+    ensures found { IfOk result (λ header. Spells bytes.now (with_header header commands.new.items)) }
+    ensures fault { IfErr result (IsFault bytes.now) }
+    ensures fault_only { (place : ℕ) → IsFaultAt bytes.now place
+        → (result ≡ Err (WireError.BadDatagram place)) ⊎ (result ≡ Err WireError.OutOfMemory) }
+{
+    commands.clear();
+    read_parts(bytes, commands)
+}
+
+fn read_parts(bytes: &[u8], commands: &mut Vec<Command>) -> Result<DatagramHeader, WireError>
+    requires none { commands.old.items ≡ [] }
+    ensures found { IfOk result (λ header. Spells bytes.now (with_header header commands.new.items)) }
+    ensures fault { IfErr result (IsFault bytes.now) }
+{
     if bytes.len() > MOST_DATAGRAM {
         return Err(WireError::BadDatagram(MOST_DATAGRAM));
     }
@@ -200,11 +231,6 @@ fn whole(alloc: Global, bytes: &[u8]) -> Result<Datagram, WireError>
         return Err(WireError::BadDatagram(bytes.len()));
     }
     let start = bytes.len() - cursor.len();
-    let commands = read_commands(alloc, header.sent.is_some(), start, &mut cursor)?;
-    Ok(Datagram {
-        peer: header.peer,
-        session: header.session,
-        sent: header.sent,
-        commands,
-    })
+    read_commands(header.sent.is_some(), start, &mut cursor, commands)?;
+    Ok(header)
 }

@@ -8,7 +8,7 @@ returns-then-place-len-clause-stands c = λ r s.
     let p = c.args.self.now in
     let all = p.all in
     let at = c.from-place.ensures in
-    subst (StandsFor p) (sym (nowhere_named p r c.args.channel c.args.number s (omega (arith, all, at)) c.if-channel-eq255.false)) s
+    subst (StandsFor p) (sym (nowhere_named p r c.args.channel c.args.number s (omega (arith, all, at)) c.if-channel-eq-CONTROL.false)) s
 
 pub returns-then-acknowledge-clause-stands : goal.returns-then-acknowledge-clause-stands
 returns-then-acknowledge-clause-stands c = λ r s.

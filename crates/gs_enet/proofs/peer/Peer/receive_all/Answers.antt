@@ -24,5 +24,5 @@ returns c = λ r s.
     let t = c.commands.invariant.stands r s in
     let end : all_received c.args.sent c.commands.rest.items t.0 ≡ t.0 =
     all_done c.args.sent c.commands.rest.items t.0 (let ok = c.commands.rest.ok in let none = c.in_default.ensures.cases.0 in omega (arith, ok, none)) in
-    let all : c.from_vec-rest.result.items ≡ c.args.commands = c.from_vec-rest.ensures.items ∙ c.into_vec.ensures in
+    let all : c.from_vec-rest.result.items ≡ c.args.commands.now.items = rw (← c.replace.ensures.value) c.from_vec-rest.ensures.items in
     subst (StandsFor c.commands.self) (sym end ∙ t.2 ∙ ap (λ (cs : List Command). all_received c.args.sent cs r) all) t.1

@@ -4,7 +4,7 @@ use Rattle.gs_enet.specs.declared.peer.Peer.{Peer}
 use Rattle.gs_enet.specs.Record.{PeerRecord}
 use Rattle.gs_enet.specs.Write.{Answers}
 use Rattle.gs_enet.specs.Items.{IsTooLong}
-use Rattle.gs_enet.proofs.Firsts.{front_is, popped, answer_first, answer_leaves}
+use Rattle.gs_enet.proofs.Firsts.{front_is, answer_first, answer_leaves}
 use Rattle.gs_enet.proofs.peer.Peer.write_answer.Goals as goal
 
 pub returns-in_default-clause-written : goal.returns-in_default-clause-written
@@ -29,9 +29,6 @@ returns-clause-written c = λ r s.
     let a : Answer = c.index-answer.result.now in
     let xs : List Answer = p.pending.items in
     let front : xs ≡ a ∷ drop 1 xs = front_is xs a c.requires.some c.index-answer.ensures in
-    let rest : c.pop_front.new.self.items ≡ drop 1 xs =
-    popped c.pop_front.result xs c.pop_front.new.self.items c.pop_front.ensures.items c.requires.some
-    (λ lt. c.pop_front.ensures.variant.1 (let ok = p.pending.ok in omega (arith, lt, ok))) in
     let put = c.in-Some.ensures in
     record {
       item = Answers a;
@@ -51,7 +48,7 @@ returns-clause-written c = λ r s.
         last_control = s.last_control;
         counts = s.counts;
         waiting = s.waiting;
-        pending = ap (drop 1) s.pending ∙ sym rest;
+        pending = ap (drop 1) s.pending ∙ sym c.drop_first.ensures;
         unacknowledged = answer_leaves r a (drop 1 xs) (s.pending ∙ front) ∙ s.unacknowledged;
       };
     }

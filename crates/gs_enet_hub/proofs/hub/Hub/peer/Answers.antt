@@ -1,24 +1,20 @@
-use Rattle.std.proofs.Common.{rules, ◌≡◌, ◌≤◌, List, Option, Some, None, length, sym, ap, subst, ◌∙◌}
+use Rattle.std.proofs.Common.{rules, ◌≡◌, ◌≤◌, ℕ, List, Option, Some, None, length, sym, ap, subst, ◌∙◌}
 use Rattle.slab.specs.Slab.{get}
 use Rattle.gs_enet.specs.declared.peer.Peer.{Peer}
 use Rattle.gs_enet_hub.specs.declared.seat.Seat.{Seat}
-use Rattle.gs_enet_hub.specs.Seating.{Seating, seat_of, seated, member, peer_of, with_peer, PutsPeer}
+use Rattle.gs_enet_hub.specs.Seating.{Seating, seat_of, seated, member, peer_of, place_if, with_peer, PutsPeer}
 use Rattle.gs_enet_hub.specs.Routing.{IsLive}
-use Rattle.gs_enet_hub.proofs.Seatings.{puts, peer_taken, peer_absent}
+use Rattle.gs_enet_hub.proofs.Seatings.{puts, peer_placed}
 use Rattle.gs_enet_hub.proofs.hub.Hub.peer.Goals as goal
-use Rattle.gs_enet_hub.proofs.hub.Hub.peer.Goals.{in-Some, in-None}
 
 pub returns : goal.returns
 returns c =
-    let found : seat_of c.self.inside.seats.items c.args.key ≡ c.seat_at.result =
-    ap (λ (x : List (Option Seat)). seat_of x c.args.key) (sym c.deref.ensures.value) ∙ sym c.seat_at.ensures in
-    let stands : get c.self.inside.peers c.match-seat_at.place ≡ peer_of (seated c.self.inside.peers (seat_of c.self.inside.seats.items c.args.key)) =
-    elim c.match-seat_at.branch [
-      | in-Some w ↦ peer_taken c.self.inside.peers (seat_of c.self.inside.seats.items c.args.key) w.in-Some.seat c.match-seat_at.place (found
-          ∙ w.in-Some.is) w.place-is
-      | in-None w ↦ peer_absent c.self.inside.peers (seat_of c.self.inside.seats.items c.args.key) c.match-seat_at.place (found ∙ w.in-None.is)
-          (subst (λ x. length c.self.inside.peers.slots ≤ x) (sym w.place-is) w.capacity-place.ensures.slots)
-    ] in (
+    let seats : List (Option Seat) = c.self.inside.seats.items in
+    let same : seat_of c.deref.result.now c.args.key ≡ seat_of seats c.args.key = ap (λ (x : List (Option Seat)). seat_of x c.args.key) c.deref.ensures.value in
+    let stands : get c.self.inside.peers c.place_of-place.result ≡ peer_of (seated c.self.inside.peers (seat_of seats c.args.key)) =
+    peer_placed c.self.inside.peers (seat_of seats c.args.key) c.place_of-place.result c.self.inside.peers.capacity
+    (c.place_of-place.ensures.value ∙ ap (place_if c.self.inside.peers.capacity) same)
+    (λ none. c.place_of-place.ensures.past (same ∙ none)) in (
       search rules,
       record {
         lent = tt;

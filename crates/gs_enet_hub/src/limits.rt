@@ -1,0 +1,4 @@
+//! The limit of a hub.
+
+/// The most connections at one time.
+pub const MOST_PEERS: usize = 16;
