@@ -1,0 +1,5 @@
+pub mod Adding
+pub mod Captured
+pub mod Keeping
+pub mod Numbered
+pub mod Reading

@@ -1,0 +1,15 @@
+use Rattle.std.proofs.Common.{◌≡◌, ◌<◌, length, rules, sym, ap, ◌∙◌, arith}
+use Rattle.std.specs.Arc.{arc_value}
+use Rattle.gs_capture.specs.Captures.{Capture}
+use Rattle.gs_capture.proofs.Numbered.{as_many, last_is}
+use Rattle.gs_capture.proofs.published.Published.newest.Goals as goal
+
+pub returns : goal.returns
+returns c =
+    let are = ap (λ (x : Capture). x.ticks) c.self.view_is in
+    let long : length c.self.inside.ticks.items ≡ length c.args.self.now.ticks = sym (as_many arc_value c.self.inside.ticks.items) ∙ ap length are in
+    let count : c.len-2.result ≡ length c.self.inside.ticks.items = search rules in
+    let above : c.args.after < length c.self.inside.ticks.items = search rules in (
+      omega (arith, long, above),
+      last_is _ _ are c.len-2.result c.index-last.result.now _ count (omega (arith, count, above)) c.index-last.ensures c.in_ok-try_clone.ensures,
+    )
