@@ -1,0 +1,20 @@
+mod Examples
+mod WholeRuns
+mod ControlRuns
+pub mod Calm
+pub mod TwoSides
+pub mod Acts
+pub mod Uses
+pub mod Heard
+pub mod Asking
+pub mod Standing
+pub mod Deeds
+pub mod ClientDeeds
+pub mod Openings
+pub mod Runs
+pub mod Reporting
+pub mod PartLines
+pub mod StreamLines
+pub mod StateLines
+pub mod OneRun
+pub mod InputLines

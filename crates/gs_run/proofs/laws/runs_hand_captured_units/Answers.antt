@@ -1,0 +1,5 @@
+use Rattle.gs_run.proofs.Runs.{runs_hand_captured_units}
+use Rattle.gs_run.proofs.laws.runs_hand_captured_units.Goals as goal
+
+pub returns : goal.returns
+returns c = runs_hand_captured_units

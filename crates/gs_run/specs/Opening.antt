@@ -1,0 +1,75 @@
+-- How a session is opened.
+use Rattle.std.specs.Prelude.{ℕ, ◌+◌, ◌-◌, ◌&&◌, Bool, [], ◌∷◌, ◌++◌, length, nat_le}
+use Rattle.gs_rtp.specs.Limits.{least_packet, most_packet, most_percentage, most_minimum}
+use Rattle.gs_frames.specs.Client.{ClientSettings}
+use Rattle.gs_enet.specs.Record.{PeerRecord, connecting, accepting}
+use Rattle.gs_enet.specs.World.{Side}
+use Rattle.gs_run.specs.CaptureFile.{CaptureFile}
+use Rattle.gs_run.specs.Session.{Part, State}
+use Rattle.gs_run.specs.Connection.{both_written_out, settled}
+use Rattle.gs_run.specs.Hearing.{up_taken, down_taken}
+
+abbrev pub most_sessions : ℕ
+most_sessions = 8
+
+abbrev pub least_window : ℕ
+least_window = 1
+
+abbrev pub most_window : ℕ
+most_window = 4
+
+-- the numbers of a session are within their limits
+abbrev pub are_settings : ℕ → ℕ → ℕ → ℕ → Bool
+are_settings packet percentage minimum window =
+    nat_le least_packet packet && nat_le packet most_packet
+    && nat_le percentage most_percentage && nat_le minimum most_minimum
+    && nat_le least_window window && nat_le window most_window
+
+-- sixty frames a second, and the audio of the capture file
+abbrev pub settings_of : CaptureFile → (ssrc packet percentage minimum window : ℕ) → ClientSettings
+settings_of file ssrc packet percentage minimum window = record {
+  stream = record {
+    packet = packet;
+    percentage = percentage;
+    minimum = minimum;
+    fps = 60;
+    duration = file.duration;
+    audio = file.audio;
+    ssrc = ssrc;
+  };
+  window = window;
+}
+
+abbrev pub new_side : PeerRecord → Side
+new_side peer = record { peer = peer; wrote = [] }
+
+-- The client has the id 0, and the connection is named by the number of the stream, which its data is too. The host's
+-- side is made by the client's CONNECT. The marks of the control datagrams stand behind the three that open it.
+abbrev pub new_part : ℕ → ℕ → ClientSettings → Part
+new_part host_id now settings = record {
+  settings = settings;
+  history = [];
+  came = [];
+  sound = [];
+  client = new_side (connecting 0 settings.stream.ssrc settings.stream.ssrc now);
+  host = new_side (accepting host_id 0 settings.stream.ssrc now);
+  owed = [];
+  marks = record { video = 0; audio = 0; up = 2; down = 1 };
+}
+
+-- VERIFY CONNECT is delivered, and then its acknowledgement
+unfoldable pub opened_part : ℕ → ℕ → ClientSettings → Part
+opened_part session now settings =
+    let written = both_written_out now (new_part (session - 1) now settings) in
+    let verified = settled now (down_taken session now 1 written).value in
+    settled now (up_taken session now 2 verified).value
+
+-- the next session is opened
+unfoldable pub opened : CaptureFile → (packet percentage minimum window : ℕ) → State → State
+opened file packet percentage minimum window state =
+    let number = length state.sessions + 1 in
+    let settings = settings_of file number packet percentage minimum window in
+    record state {
+      sessions = state.sessions
+          ++ record { part = opened_part number state.moment settings; earlier = [] } ∷ [];
+    }
