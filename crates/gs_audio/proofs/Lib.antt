@@ -1,7 +1,5 @@
 mod Examples
 pub mod Counted
-pub mod Written
-pub mod LaidShards
 pub mod Sent
 pub mod Ready
 pub mod Restored

@@ -15,8 +15,8 @@ use Rattle.gs_rtp.specs.declared.audio.AudioHead.{AudioHead}
 use Rattle.gs_rtp.specs.Audio.{audio_header}
 use Rattle.gs_rtp.specs.AudioDatagrams.{numbered, unit_datagram, parity_datagram}
 use Rattle.gs_audio.specs.Sending.{Sending, HasPushed, last_datagrams, last_block, ready_head, ready_place}
-use Rattle.gs_audio.proofs.Written.{front-place}
-use Rattle.gs_audio.proofs.LaidShards.{HaveSize, laid-at}
+use Rattle.gs_rs.proofs.PlaceWrites.{front-place}
+use Rattle.gs_rs.proofs.LaidShards.{HaveSize, laid-at}
 use Rattle.gs_audio.proofs.Sent.{numbered-is}
 
 -- the length of the last block

@@ -11,8 +11,9 @@ use Rattle.gs_rs.specs.Restore.{IsPresent, count_present, RestoresSomeBlock}
 use Rattle.gs_rs.proofs.Rows.{IsCode-audio}
 use Rattle.gs_rs.proofs.HeldShards.{held_shards_fix}
 use Rattle.gs_audio.specs.Places.{AreShards, HasMarks, HasPlaced, HasRestored}
-use Rattle.gs_audio.proofs.Counted.{among-held, count-marks, count-before}
-use Rattle.gs_audio.proofs.Written.{front-place}
+use Rattle.gs_audio.proofs.Counted.{among-held, count-marks}
+use Rattle.gs_rs.proofs.Flags.{count-before}
+use Rattle.gs_rs.proofs.PlaceWrites.{front-place}
 
 -- enough are present
 enough : (few : ℕ) (result : Result (Unit {0}) TooFew) (P : Type 0) → few ≡ 4 → IsErr result ↔ (few < 4) → OnOk result P → P

@@ -18,7 +18,7 @@ use Rattle.gs_rtp.specs.declared.audio.AudioHead.{AudioHead}
 use Rattle.gs_rtp.specs.Audio.{audio_header}
 use Rattle.gs_rtp.specs.AudioDatagrams.{numbered, units_of_block, unit_datagram, parity_datagram, unit_datagrams, audio_datagrams}
 use Rattle.gs_audio.specs.Sending.{Sending, HasParity, HasPushed, last_datagrams, last_block, next_block, ready_behind, AudioDatagramsGrow}
-use Rattle.gs_audio.proofs.LaidShards.{HaveSize, block-is}
+use Rattle.gs_rs.proofs.LaidShards.{HaveSize, block-is}
 
 -- ---- units by their numbers
 

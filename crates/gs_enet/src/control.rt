@@ -1,6 +1,7 @@
 //! A command of the control channel that isn't acknowledged yet.
 
-ghost use Rattle.std.specs.Prelude.{◌≡◌, ◌≤◌, ◌<◌, false, true};
+ghost use Rattle.std.specs.Prelude.{◌≡◌, ◌≤◌, ◌<◌, ◌+◌, false, true};
+ghost use Rattle.gs_enet.specs.declared.limits.TheConstants.{MOST_WRITES};
 
 use crate::held::wait_after;
 use crate::limits::MOST_WRITES;
@@ -22,8 +23,8 @@ pub struct Control {
     pub written: u32,
     pub due: bool,
     ghost small: { number < 65536 },
-    ghost few: { writes ≤ 13 },
-    ghost again: { due ≡ true → writes ≤ 12 },
+    ghost few: { writes ≤ MOST_WRITES },
+    ghost again: { due ≡ true → writes + 1 ≤ MOST_WRITES },
 }
 
 impl Control {

@@ -1,6 +1,7 @@
 //! A message that isn't acknowledged yet.
 
-ghost use Rattle.std.specs.Prelude.{◌≡◌, ◌≤◌, true, length, min, ◌*◌, ◌-◌, ◌^◌};
+ghost use Rattle.std.specs.Prelude.{◌≡◌, ◌≤◌, ◌+◌, true, length, min, ◌*◌, ◌-◌, ◌^◌};
+ghost use Rattle.gs_enet.specs.declared.limits.TheConstants.{MOST_WRITES};
 ghost use Rattle.gs_enet.specs.Record.{most_message, datagram_room};
 
 use crate::limits::{DATAGRAM_ROOM, MOST_WRITES};
@@ -35,8 +36,8 @@ pub struct Held {
     pub written: u32,
     pub due: bool,
     ghost short: { length bytes ≤ most_message },
-    ghost few: { writes ≤ 13 },
-    ghost again: { due ≡ true → writes ≤ 12 },
+    ghost few: { writes ≤ MOST_WRITES },
+    ghost again: { due ≡ true → writes + 1 ≤ MOST_WRITES },
 }
 
 impl Held {

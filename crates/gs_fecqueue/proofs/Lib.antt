@@ -1,6 +1,5 @@
 pub mod Counted
 pub mod Payloads
-pub mod Written
 pub mod Restored
 pub mod Taking
 pub mod Frames

@@ -22,9 +22,10 @@ use Rattle.gs_frames.specs.Shards.{payload_of}
 use Rattle.gs_frames.specs.Received.{Received}
 use Rattle.gs_frames.specs.Complete.{code_of, joined_payloads}
 use Rattle.gs_fecqueue.specs.Places.{total_of, kept_payload, AreShards, HasFlagsOf, HasPlaced}
-use Rattle.gs_fecqueue.proofs.Counted.{among-held, count-flags, count-before}
+use Rattle.gs_fecqueue.proofs.Counted.{among-held, count-flags}
+use Rattle.gs_rs.proofs.Flags.{count-before}
 use Rattle.gs_fecqueue.proofs.Payloads.{joined-is}
-use Rattle.gs_fecqueue.proofs.Written.{front-place}
+use Rattle.gs_rs.proofs.PlaceWrites.{front-place}
 
 -- counts within the limits make a video code
 video_is_code : (d p : ℕ) → 0 < d → d + p ≤ 255 → IsCode (video_code d p)

@@ -1,9 +1,6 @@
 // What a queue answers.
 
-use gs_frames::Added;
-
-/// How many frames a window has at most.
-pub const WINDOW_GREATEST: usize = 4;
+use gs_frames::{Added, WINDOW_GREATEST};
 
 /// What a datagram of a greater frame changed: the greatest frame before it, 0 at first, and its own.
 #[derive(Clone, Copy, Debug, PartialEq, Eq)]

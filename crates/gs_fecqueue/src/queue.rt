@@ -2,6 +2,7 @@
 
 ghost use Rattle.std.specs.Prelude.{◌≡◌, ◌≤◌, vec_len};
 ghost use Rattle.gs_rtp.specs.Limits.{least_packet, most_packet};
+ghost use Rattle.gs_frames.specs.Client.{least_window, most_window};
 
 use crate::block::PACKET_HEADER;
 use crate::frame::Frame;
@@ -25,8 +26,8 @@ pub struct Queue {
     frames: Vec<Frame>,
     ghost packet_least: { least_packet ≤ packet },
     ghost packet_greatest: { packet ≤ most_packet },
-    ghost window_least: { 1 ≤ window },
-    ghost window_greatest: { window ≤ 4 },
+    ghost window_least: { least_window ≤ window },
+    ghost window_greatest: { window ≤ most_window },
     ghost places: { window ≤ vec_len frames },
 }
 

@@ -1,6 +1,14 @@
 -- What a client is, and what it was given.
 use Rattle.std.specs.Prelude.{ℕ, ◌≤◌, List, map}
 use Rattle.gs_rtp.specs.Stream.{StreamSettings}
+use Rattle.gs_frames.specs.declared.window.TheConstants.{WINDOW_GREATEST}
+
+-- a window has one frame at least, and at most four
+abbrev pub least_window : ℕ
+least_window = 1
+
+abbrev pub most_window : ℕ
+most_window = WINDOW_GREATEST
 
 -- the settings of its stream, and how many frames, the newest, it keeps open: its window, of 1 to 4
 pub record ClientSettings : Type 0 where
@@ -9,8 +17,8 @@ pub record ClientSettings : Type 0 where
 
 -- its window is one of these
 pub record HasWindow (client : ClientSettings) : Type 0 where
-  pub least : 1 ≤ client.window
-  pub greatest : client.window ≤ 4
+  pub least : least_window ≤ client.window
+  pub greatest : client.window ≤ most_window
 
 -- What a client is given: the bytes of a datagram, or a reset of its decoder, which then needs an IDR frame.
 -- A list of these has the newest first.

@@ -23,6 +23,7 @@ mod range;
 #[cfg(test)]
 mod tests;
 mod verdict;
+mod window;
 
 pub use image::{IMAGE_HEADER_LENGTH, write_image_header};
 pub use laws::{
@@ -34,3 +35,4 @@ pub use laws::{
 };
 pub use range::Range;
 pub use verdict::{Added, Shape, Why};
+pub use window::WINDOW_GREATEST;

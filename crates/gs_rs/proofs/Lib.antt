@@ -12,3 +12,6 @@ pub mod Restoring
 pub mod Present
 pub mod Restored
 pub mod HeldShards
+pub mod PlaceWrites
+pub mod LaidShards
+pub mod Flags

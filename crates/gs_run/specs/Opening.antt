@@ -1,7 +1,7 @@
 -- How a session is opened.
 use Rattle.std.specs.Prelude.{ℕ, ◌+◌, ◌-◌, ◌&&◌, Bool, [], ◌∷◌, ◌++◌, length, nat_le}
 use Rattle.gs_rtp.specs.Limits.{least_packet, most_packet, most_percentage, most_minimum}
-use Rattle.gs_frames.specs.Client.{ClientSettings}
+use Rattle.gs_frames.specs.Client.{ClientSettings, least_window, most_window}
 use Rattle.gs_enet.specs.Record.{PeerRecord, connecting, accepting}
 use Rattle.gs_enet.specs.World.{Side}
 use Rattle.gs_run.specs.CaptureFile.{CaptureFile}
@@ -11,12 +11,6 @@ use Rattle.gs_run.specs.Hearing.{up_taken, down_taken}
 
 abbrev pub most_sessions : ℕ
 most_sessions = 8
-
-abbrev pub least_window : ℕ
-least_window = 1
-
-abbrev pub most_window : ℕ
-most_window = 4
 
 -- the numbers of a session are within their limits
 abbrev pub are_settings : ℕ → ℕ → ℕ → ℕ → Bool

@@ -33,7 +33,7 @@ use Rattle.gs_split.specs.Places.{packets_before, datagrams_before, placed_plan,
 use Rattle.gs_split.specs.Splitting.{KeepsShards, has_parity_at}
 use Rattle.gs_split.specs.Loaded.{IsPlanned, outgoing, place_of, data_shard_at, block_data, shards_of_block}
 use Rattle.gs_split.proofs.Places.{length-blocks_of}
-use Rattle.gs_split.proofs.LaidShards.{HaveSize, drop-twice, laid-at, take-inside}
+use Rattle.gs_rs.proofs.LaidShards.{HaveSize, drop-twice, laid-at, take-inside}
 use Rattle.gs_split.proofs.DataShards.{length-block_data, block_data-at, data_shards-sizes}
 use Rattle.gs_split.proofs.FrameShards.{blocks-at, length-block_shards, shards-of_headed}
 use Rattle.gs_split.proofs.WrittenFrames.{plan-is_of}

@@ -10,7 +10,7 @@ use Rattle.gs_frames.proofs.ShardForms.{length-shares}
 use Rattle.gs_split.specs.declared.frame.LoadedFrame.{LoadedFrame}
 use Rattle.gs_split.specs.declared.placed.PlacedBlock.{PlacedBlock}
 use Rattle.gs_split.specs.Loaded.{block_image, block_data, data_shard_at}
-use Rattle.gs_split.proofs.LaidShards.{HaveSize, drop-twice}
+use Rattle.gs_rs.proofs.LaidShards.{HaveSize, drop-twice}
 
 -- ---- shares of an image
 

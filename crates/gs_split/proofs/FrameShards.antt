@@ -16,7 +16,7 @@ use Rattle.gs_frames.specs.Datagrams.{Place, next_block, headed_shard, headed_sh
 use Rattle.gs_frames.proofs.FramesReceived.{place_at}
 use Rattle.gs_frames.proofs.ShardForms.{length-shares, data_shards_of}
 use Rattle.gs_split.specs.Places.{packets_before, datagrams_before}
-use Rattle.gs_split.proofs.LaidShards.{drop-twice}
+use Rattle.gs_rs.proofs.LaidShards.{drop-twice}
 use Rattle.gs_split.proofs.DataShards.{length-data_shards_from}
 
 -- ---- one block

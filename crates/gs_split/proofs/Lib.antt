@@ -2,7 +2,6 @@ pub mod Counts
 pub mod Blocks
 pub mod Places
 pub mod Payloads
-pub mod LaidShards
 pub mod DataShards
 pub mod WrittenBlocks
 pub mod FrameShards

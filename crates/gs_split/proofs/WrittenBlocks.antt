@@ -16,7 +16,7 @@ use Rattle.gs_split.specs.declared.frame.LoadedFrame.{LoadedFrame}
 use Rattle.gs_split.specs.declared.placed.PlacedBlock.{PlacedBlock}
 use Rattle.gs_split.specs.Places.{placed_plan}
 use Rattle.gs_split.specs.Loaded.{block_image, block_data, shards_of_block}
-use Rattle.gs_split.proofs.LaidShards.{block-is}
+use Rattle.gs_rs.proofs.LaidShards.{block-is}
 use Rattle.gs_split.proofs.DataShards.{block_image-room}
 
 -- its image is bytes

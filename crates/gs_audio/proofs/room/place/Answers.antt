@@ -1,5 +1,5 @@
 use Rattle.std.proofs.Common.{◌+◌, ◌-◌, ◌*◌, length, ap, arith}
-use Rattle.gs_audio.proofs.Written.{put-others}
+use Rattle.gs_rs.proofs.PlaceWrites.{put-others}
 use Rattle.gs_audio.proofs.room.place.Goals as goal
 
 pub returns-clause-others : goal.returns-clause-others

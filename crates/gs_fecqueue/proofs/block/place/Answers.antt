@@ -1,5 +1,5 @@
 use Rattle.std.proofs.Common.{◌+◌, ◌-◌, ◌*◌, length, refl, ap, arith}
-use Rattle.gs_fecqueue.proofs.Written.{put-others}
+use Rattle.gs_rs.proofs.PlaceWrites.{put-others}
 use Rattle.gs_fecqueue.proofs.block.place.Goals as goal
 
 pub returns-clause-others : goal.returns-clause-others

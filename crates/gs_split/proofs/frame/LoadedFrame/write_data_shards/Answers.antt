@@ -2,7 +2,7 @@ use Rattle.std.proofs.Common.{◌≡◌, ◌≤◌, ◌<◌, ◌+◌, ◌*◌, r
 use Rattle.std.proofs.lemmas.Nat.{mul-le}
 use Rattle.gs_rtp.specs.Stream.{numbers_of}
 use Rattle.gs_split.specs.Loaded.{block_data}
-use Rattle.gs_split.proofs.LaidShards.{laid-written, laid-whole}
+use Rattle.gs_rs.proofs.LaidShards.{laid-written, laid-whole}
 use Rattle.gs_split.proofs.DataShards.{length-block_data, block_data-at, block_data-sizes}
 use Rattle.gs_split.proofs.frame.LoadedFrame.write_data_shards.Goals as goal
 
