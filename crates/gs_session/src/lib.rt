@@ -24,3 +24,6 @@ pub use call::{Call, Reply};
 pub use error::{ChooseError, EndedError, InvalidError};
 pub use pass::SessionPass;
 pub use session::Session;
+
+#[cfg(test)]
+mod tests;
