@@ -14,35 +14,23 @@ E";
 const ONE_TICK: &[u8; 27] =
     b"GSTAPE01\x00\x00\x05\x00T\x00\x00\x00\x00\x00\x00\x03\x00\x00\x00ABCE";
 
-/// What is answered where one byte of `SMALL` is another: a row for each value, with the kind for each
-/// place (0 no fault, L a unit too large, A the audio length), and the place or the tick of each.
-const ZERO: &[u8; 51] = b"111111114010200002020000002300022500005000200000002";
+/// What is answered where one byte of `SMALL` is another: a text for each value, with the kind for each place (0 no
+/// fault, L a unit too large, A the audio length) and behind it the place or the tick.
+const ZERO: &str =
+    "10 11 12 13 14 15 16 17 417 00 110 00 212 00 00 00 00 224 00 225 00 00 00 00 00 00 226 327 00 00 00 \
+248 240 537 00 00 00 00 538 00 00 00 248 00 00 00 00 00 00 00 250";
 
-const ZERO_AT: [u64; 51] = [
-    0, 1, 2, 3, 4, 5, 6, 7, 17, 0, 10, 0, 12, 0, 0, 0, 0, 24, 0, 25, 0, 0, 0, 0, 0, 0, 26, 27, 0,
-    0, 0, 48, 40, 37, 0, 0, 0, 0, 38, 0, 0, 0, 48, 0, 0, 0, 0, 0, 0, 0, 50,
-];
+const ONE: &str =
+    "10 11 12 13 14 15 16 17 225 651 110 111 212 00 327 327 327 00 524 00 651 651 L1 00 00 00 226 327 00 \
+00 00 00 00 00 651 651 L2 00 00 538 538 538 249 651 651 L2 00 00 00 00 250";
 
-const ONE: &[u8; 51] = b"1111111126112033305066L0002300000066L00555266L00002";
+const END: &str =
+    "10 11 12 13 14 00 16 17 651 A0 110 111 713 327 327 327 327 417 418 651 651 L1 L1 00 00 00 727 00 00 \
+00 00 431 432 651 651 L2 L2 00 538 538 538 538 651 651 L2 L2 00 00 00 00 00";
 
-const ONE_AT: [u64; 51] = [
-    0, 1, 2, 3, 4, 5, 6, 7, 25, 51, 10, 11, 12, 0, 27, 27, 27, 0, 24, 0, 51, 51, 1, 0, 0, 0, 26,
-    27, 0, 0, 0, 0, 0, 0, 51, 51, 2, 0, 0, 38, 38, 38, 49, 51, 51, 2, 0, 0, 0, 0, 50,
-];
-
-const END: &[u8; 51] = b"111110116A11733334466LL000700004466LL0555566LL00000";
-
-const END_AT: [u64; 51] = [
-    0, 1, 2, 3, 4, 0, 6, 7, 51, 0, 10, 11, 13, 27, 27, 27, 27, 17, 18, 51, 51, 1, 1, 0, 0, 0, 27,
-    0, 0, 0, 0, 31, 32, 51, 51, 2, 2, 0, 38, 38, 38, 38, 51, 51, 2, 2, 0, 0, 0, 0, 0,
-];
-
-const MOST: &[u8; 51] = b"111111116A11233334466LL000200004466LL0555566LL00002";
-
-const MOST_AT: [u64; 51] = [
-    0, 1, 2, 3, 4, 5, 6, 7, 51, 0, 10, 11, 12, 27, 27, 27, 27, 17, 18, 51, 51, 1, 1, 0, 0, 0, 26,
-    0, 0, 0, 0, 31, 32, 51, 51, 2, 2, 0, 38, 38, 38, 38, 51, 51, 2, 2, 0, 0, 0, 0, 50,
-];
+const MOST: &str =
+    "10 11 12 13 14 15 16 17 651 A0 110 111 212 327 327 327 327 417 418 651 651 L1 L1 00 00 00 226 00 00 \
+00 00 431 432 651 651 L2 L2 00 538 538 538 538 651 651 L2 L2 00 00 00 00 250";
 
 // What a file of few ticks is answered in the end.
 fn answer_of(alloc: Global, bytes: &[u8]) -> Result<Option<TapeError>, Fail> {
@@ -75,53 +63,43 @@ fn ends_where_it_is_cut(alloc: Global, bytes: &[u8]) -> Result<bool, Fail> {
     Ok(answer_of(alloc, bytes)?.is_none())
 }
 
-// The kind of an answer, and its place or tick.
-fn row_of(answer: Option<TapeError>) -> (u8, u64) {
-    match answer {
-        None => (b'0', 0),
-        Some(TapeError::BadTape { kind, place }) => (kind.wrapping_add(b'0'), place),
-        Some(TapeError::TapeFull { tick }) => (b'F', u64::from(tick)),
-        Some(TapeError::UnitTooLarge { tick }) => (b'L', u64::from(tick)),
-        Some(TapeError::AudioLength { .. }) => (b'A', 0),
-        Some(_) => (b'?', 0),
+// An answer as a word: its kind, and its place or tick.
+fn push_word(words: &mut String, answer: Option<TapeError>) -> Result<(), Fail> {
+    let (kind, at) = match answer {
+        None => ('0', 0),
+        Some(TapeError::BadTape { kind, place }) => (char::from(kind.wrapping_add(b'0')), place),
+        Some(TapeError::TapeFull { tick }) => ('F', u64::from(tick)),
+        Some(TapeError::UnitTooLarge { tick }) => ('L', u64::from(tick)),
+        Some(TapeError::AudioLength { .. }) => ('A', 0),
+        Some(_) => ('?', 0),
+    };
+    if !words.is_empty() {
+        words.push(' ')?;
     }
+    write!(words, "{kind}{at}")?;
+    Ok(())
 }
 
 // The answers where each byte in turn has this value.
-fn changed(alloc: Global, value: u8) -> Result<(Vec<u8>, Vec<u64>), Fail> {
-    let mut kinds = Vec::new(alloc);
-    let mut places = Vec::new(alloc);
+fn changed(alloc: Global, value: u8) -> Result<String, Fail> {
+    let mut words = String::new(alloc);
     for place in 0..SMALL.len() {
         let mut bytes = Vec::from_slice(alloc, SMALL)?;
         if let Some(byte) = bytes.get_mut(place) {
             *byte = value;
         }
-        let (kind, at) = row_of(answer_of(alloc, &bytes)?);
-        kinds.push(kind)?;
-        places.push(at)?;
+        let answer = answer_of(alloc, &bytes)?;
+        push_word(&mut words, answer)?;
     }
-    Ok((kinds, places))
+    Ok(words)
 }
 
 #[test]
 fn a_changed_byte_has_its_fault(rt: HostRuntime) -> Result<(), Fail> {
-    let (kinds, places) = changed(rt.alloc(), 0x00)?;
-    assert!(rt; kinds.as_slice() == ZERO.as_slice());
-    assert!(rt; places.as_slice() == ZERO_AT.as_slice());
-    let (kinds, places) = changed(rt.alloc(), 0x01)?;
-    assert!(rt; kinds.as_slice() == ONE.as_slice());
-    assert!(rt; places.as_slice() == ONE_AT.as_slice());
-    Ok(())
-}
-
-#[test]
-fn another_changed_byte_has_its_fault(rt: HostRuntime) -> Result<(), Fail> {
-    let (kinds, places) = changed(rt.alloc(), 0x45)?;
-    assert!(rt; kinds.as_slice() == END.as_slice());
-    assert!(rt; places.as_slice() == END_AT.as_slice());
-    let (kinds, places) = changed(rt.alloc(), 0xFF)?;
-    assert!(rt; kinds.as_slice() == MOST.as_slice());
-    assert!(rt; places.as_slice() == MOST_AT.as_slice());
+    assert!(rt; changed(rt.alloc(), 0x00)?.as_str() == ZERO);
+    assert!(rt; changed(rt.alloc(), 0x01)?.as_str() == ONE);
+    assert!(rt; changed(rt.alloc(), 0x45)?.as_str() == END);
+    assert!(rt; changed(rt.alloc(), 0xFF)?.as_str() == MOST);
     Ok(())
 }
 
