@@ -45,7 +45,7 @@ not_left x (Some g) above = let below : g < x = ltb-true g x above in le-ltb x g
 
 -- ---- shards of a block
 
-of_other : (block : ℕ) (r : AudioShard) (rs : List AudioShard) → (r.block == block) ≡ false → shards_of_block block (r ∷ rs) ≡ shards_of_block block rs
+pub of_other : (block : ℕ) (r : AudioShard) (rs : List AudioShard) → (r.block == block) ≡ false → shards_of_block block (r ∷ rs) ≡ shards_of_block block rs
 of_other block r rs other =
     ap (λ (l : List AudioShard). map (λ (t : AudioShard). t.shard) l)
     (cond-false (r.block == block) (r ∷ filter (λ t. t.block == block) rs) (filter (λ t. t.block == block) rs) other)

@@ -1,13 +1,15 @@
 -- What is played of some datagrams, computed.
-use Rattle.std.proofs.Common.{◌≡◌, ℕ, List, [], ◌∷◌, refl}
-use Rattle.std.specs.List.{slice_get}
+use Rattle.std.proofs.Common.{◌≡◌, ℕ, List, [], ◌∷◌, length, inl, refl, lit<, lit≤}
+use Rattle.std.specs.List.{All, Contains, slice_get}
 use Rattle.std.specs.Prelude.{Option, Some, None}
-use Rattle.gs_gf256.specs.Field.{product, remainder, polynomial_product, inverse, inverse_below, field_sum}
+use Rattle.std.proofs.lemmas.List.Elements.{All-from_recursion}
+use Rattle.gs_gf256.specs.Field.{IsByte, product, remainder, polynomial_product, inverse, inverse_below, field_sum}
 use Rattle.gs_poly.specs.Polynomial.{ratio_product}
-use Rattle.gs_rtp.specs.Stream.{StreamSettings}
+use Rattle.gs_rtp.specs.Stream.{StreamSettings, AreSettingsWithinLimits}
 use Rattle.gs_rtp.specs.AudioDatagrams.{audio_datagrams}
 use Rattle.gs_audio.specs.Received.{received_audio}
 use Rattle.gs_audio.specs.Played.{PlayedUnit, counting, newly_played, played}
+use Rattle.gs_audio.specs.PlayedLaws.{AreSessionUnits, AreOfUnits, IsUnitOf, PlayedUnitsWereSent}
 
 -- units of one byte
 tiny : StreamSettings
@@ -80,3 +82,59 @@ other = record { packet = 1024; percentage = 0; minimum = 0; fps = 60; duration 
 other_session : played other (sent 4 ∷ sent 3 ∷ sent 2 ∷ sent 1 ∷ []) ≡ []
 unfolding tiny played newly_played received_audio counting
 other_session = refl
+
+-- ---- the law's premises hold of them
+
+within : AreSettingsWithinLimits tiny
+unfolding tiny
+within = record {
+  packet_least = lit≤ tt;
+  packet_greatest = lit≤ tt;
+  percentage_greatest = lit≤ tt;
+  minimum_greatest = lit≤ tt;
+  fps_least = lit≤ tt;
+  fps_greatest = lit≤ tt;
+  duration_known = inl refl;
+  audio_greatest = lit≤ tt;
+  ssrc_least = lit≤ tt;
+  ssrc_greatest = lit≤ tt;
+}
+
+units_are : AreSessionUnits tiny units
+unfolding tiny
+units_are = record {
+  sizes = All-from_recursion (λ unit. length unit ≡ 1) units (refl, (refl, (refl, (refl, (refl, (refl, (refl, (refl, (refl, tt)))))))));
+  bytes = All-from_recursion (All IsByte) units (
+    byte 1 (lit< tt),
+    (
+      byte 0 (lit< tt),
+      (
+        byte 0 (lit< tt),
+        (
+          byte 0 (lit< tt),
+          (
+            byte 5 (lit< tt),
+            (byte 6 (lit< tt), (byte 7 (lit< tt), (byte 8 (lit< tt), (byte 9 (lit< tt), tt)))),
+          ),
+        ),
+      ),
+    ),
+  );
+  few = lit≤ tt;
+}
+  where
+    byte : (b : ℕ) → IsByte b → All IsByte (b ∷ [])
+    byte b small = All-from_recursion IsByte (b ∷ []) (small, tt)
+
+-- the two units and the parity by which two lost ones are restored
+abbrev two_lost : List (List ℕ)
+two_lost = sent 3 ∷ sent 2 ∷ sent 6 ∷ sent 5 ∷ []
+
+two_lost_are : AreOfUnits tiny units two_lost
+unfolding tiny product remainder polynomial_product field_sum
+two_lost_are =
+    All-from_recursion (Contains (audio_datagrams tiny units)) two_lost
+    ((2, lit< tt, refl), ((1, lit< tt, refl), ((5, lit< tt, refl), ((4, lit< tt, refl), tt))))
+
+played_are_units : PlayedUnitsWereSent → All (IsUnitOf units) (played tiny two_lost)
+played_are_units law = law tiny units two_lost within units_are two_lost_are

@@ -6,3 +6,6 @@ pub mod Restored
 pub mod Rooms
 pub mod Counting
 pub mod Taken
+pub mod PlayedShards
+pub mod PlayedSent
+pub mod PlayedRise

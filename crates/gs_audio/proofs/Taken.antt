@@ -124,7 +124,7 @@ shard-cut bytes m = take_all (length bytes - m) (drop m bytes) (omega (arith, le
 
 -- ---- a datagram taken
 
-newly-by : (s : StreamSettings) (bytes : List ℕ) (came : List (List ℕ)) (o : Option AudioShard) → received_audio s bytes ≡ o
+pub newly-by : (s : StreamSettings) (bytes : List ℕ) (came : List (List ℕ)) (o : Option AudioShard) → received_audio s bytes ≡ o
     → newly_played s bytes came ≡ played_by_taken s (taken_audio s came) o
 unfolding newly_played
 newly-by s bytes came o e = ap (played_by_taken s (taken_audio s came)) e

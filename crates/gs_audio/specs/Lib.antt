@@ -1,5 +1,6 @@
 pub mod Received
 pub mod Played
+pub mod PlayedLaws
 pub mod Units
 pub mod Sending
 pub mod Places
