@@ -36,7 +36,7 @@ use Rattle.gs_run.proofs.Heard.{act_ranges, ranges_in, ranges_told, ranges_in-ap
 -- ---- frames
 
 -- no more frames than ticks
-frames_and_ticks : (audio : ℕ) (ticks : List Tick) (h : List Entry) → AreWithinLimits audio 1 0 ticks → IsLegal ticks h
+pub frames_and_ticks : (audio : ℕ) (ticks : List Tick) (h : List Entry) → AreWithinLimits audio 1 0 ticks → IsLegal ticks h
     → (frames h ≤ last_tick h) × (last_tick h ≤ most_ticks)
 frames_and_ticks audio ticks [] within legal = (omega arith, omega arith)
 frames_and_ticks audio ticks (Sent tick kind reference ∷ h) within legal =

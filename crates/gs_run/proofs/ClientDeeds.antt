@@ -64,6 +64,7 @@ video_is_given ticks part bytes session k among room =
       history = k.history;
       goes_on = k.goes_on;
       sent = sent;
+      sound_sent = k.sound_sent;
       both = k.both;
       calm_client = k.calm_client;
       calm_host = k.calm_host;
@@ -114,12 +115,32 @@ video_keeps scene n part test k = by (slice_get (video_of scene.ticks part) (n -
 
 -- ---- audio
 
+audio_is_given : (ticks : List Tick) (part : Part) (bytes : List ℕ) → Contains (audio_of ticks part) bytes → IsKeptPart ticks part
+    → IsKeptPart ticks (record part { sound = bytes ∷ part.sound })
+audio_is_given ticks part bytes among k = record {
+  window = k.window;
+  history = k.history;
+  goes_on = k.goes_on;
+  sent = k.sent;
+  sound_sent = All-cons (Contains (audio_of ticks part)) bytes part.sound among k.sound_sent;
+  both = k.both;
+  calm_client = k.calm_client;
+  calm_host = k.calm_host;
+  few = k.few;
+  asked = k.asked;
+  on_channel = k.on_channel;
+  others = k.others;
+  lost = k.lost;
+  fitting = k.fitting;
+  acted = k.acted;
+}
+
 pub audio_keeps : (scene : Scene) (n : ℕ) (part : Part) → IsKeptPart scene.ticks part → IsKeptPart scene.ticks (audio_taken scene n part).value
 unfolding audio_taken
-audio_keeps scene n part k = by (slice_get (audio_of scene.ticks part) (n - 1)) where
-  by : (o : Option (List ℕ)) → IsKeptPart scene.ticks (with_audio_if scene.session o part).value
-  by None = k
-  by (Some bytes) = k
+audio_keeps scene n part k = by (slice_get (audio_of scene.ticks part) (n - 1)) refl where
+  by : (o : Option (List ℕ)) → slice_get (audio_of scene.ticks part) (n - 1) ≡ o → IsKeptPart scene.ticks (with_audio_if scene.session o part).value
+  by None e = k
+  by (Some bytes) e = audio_is_given scene.ticks part bytes (contains_at (audio_of scene.ticks part) (n - 1) bytes e) k
 
 -- ---- a reset
 
@@ -135,6 +156,7 @@ reset_keeps ticks session part room k =
       history = k.history;
       goes_on = k.goes_on;
       sent = All-cons (IsOfStream (video_of ticks part)) Reset part.came tt k.sent;
+      sound_sent = k.sound_sent;
       both = k.both;
       calm_client = k.calm_client;
       calm_host = k.calm_host;
@@ -171,6 +193,7 @@ user_gives ticks part c bytes below apart can room other k =
       history = k.history;
       goes_on = k.goes_on;
       sent = k.sent;
+      sound_sent = k.sound_sent;
       both = act_both (Send c bytes) part.client part.host k.both;
       calm_client = calm_sent c bytes old moved.peer more (heard_same c bytes part.client) (omega (arith, room)) k.calm_client;
       calm_host = k.calm_host;
@@ -209,6 +232,7 @@ idr_gives ticks part can room k =
       history = k.history;
       goes_on = k.goes_on;
       sent = k.sent;
+      sound_sent = k.sound_sent;
       both = act_both (Send request_channel bytes) part.client part.host k.both;
       calm_client = calm_sent request_channel bytes old moved.peer more (heard_same request_channel bytes part.client) (omega (arith, room)) k.calm_client;
       calm_host = k.calm_host;

@@ -1,7 +1,7 @@
 -- Each deed of a session keeps its part.
 use Rattle.std.proofs.Common.{◌≡◌, ◌<◌, ◌+◌, ◌-◌, ℕ, Bool, true, false, not, cond, ◌&&◌, List, [], ◌∷◌, ◌++◌, length, map, Option, Some, None, refl, sym, ap, subst, ◌∙◌, arith, inl, inr}
 use Rattle.std.specs.Prelude.{nat_lt, slice_get}
-use Rattle.std.specs.List.{All}
+use Rattle.std.specs.List.{All, Contains}
 use Rattle.std.proofs.lemmas.Bool.{and_parts, ltb-true, cases_eq}
 use Rattle.std.proofs.lemmas.List.{append-nil}
 use Rattle.std.proofs.lemmas.List.Elements.{All-weaker, Contains-append_left}
@@ -12,8 +12,10 @@ use Rattle.gs_refs.specs.Choice.{choice}
 use Rattle.gs_frames.specs.declared.range.Range.{Range}
 use Rattle.gs_frames.specs.Client.{Arrival, Datagram, Reset}
 use Rattle.gs_stream.specs.Video.{video_stream}
+use Rattle.gs_stream.specs.Audio.{audio_stream}
 use Rattle.gs_stream.specs.Paired.{IsOfStream}
 use Rattle.gs_stream.proofs.Growth.{streams_only_grow}
+use Rattle.gs_stream.proofs.AudioGrowth.{audio_only_grows}
 use Rattle.gs_enet.specs.declared.event.PeerEvent.{PeerEvent}
 use Rattle.gs_enet.specs.Record.{given_on, heard, messages_on}
 use Rattle.gs_enet.specs.World.{Time, acted, came}
@@ -94,6 +96,7 @@ host_hears_keeps ticks session part k =
       history = record { limits = k.history.limits; capture = k.history.capture; bytes = k.history.bytes; legal = gains.legal };
       goes_on = gains.goes_on;
       sent = subst (λ (stream : List (List ℕ)). All (IsOfStream stream) part.came) (sym gains.stream_same) k.sent;
+      sound_sent = subst (λ (stream : List (List ℕ)). All (Contains stream) part.sound) (sym gains.sound_same) k.sound_sent;
       both = swapped host part.client (told_both part.host part.client (swapped part.client part.host k.both));
       calm_client = k.calm_client;
       calm_host = calm_told part.host.peer k.calm_host;
@@ -159,6 +162,8 @@ sends ticks part captured t k newer there =
     let e : Entry = sent_entry captured (choice part.history t) in
     let before = video_stream part.settings.stream ticks part.history in
     let grown = streams_only_grow part.settings.stream ticks e part.history in
+    let sounds = audio_stream part.settings.stream ticks part.history in
+    let louder = audio_only_grows part.settings.stream ticks e part.history in
     record {
       window = k.window;
       history = record {
@@ -170,6 +175,8 @@ sends ticks part captured t k newer there =
       goes_on = k.goes_on;
       sent = subst (λ (stream : List (List ℕ)). All (IsOfStream stream) part.came) (sym grown.1)
           (All-weaker (IsOfStream before) (IsOfStream (before ++ grown.0)) (of_longer before grown.0) part.came k.sent);
+      sound_sent = subst (λ (stream : List (List ℕ)). All (Contains stream) part.sound) (sym louder.1)
+          (All-weaker (Contains sounds) (Contains (sounds ++ louder.0)) (λ bytes among. Contains-append_left sounds louder.0 bytes among) part.sound k.sound_sent);
       both = k.both;
       calm_client = k.calm_client;
       calm_host = k.calm_host;

@@ -11,6 +11,7 @@ use Rattle.gs_refs.specs.History.{frames, has_ended}
 use Rattle.gs_refs.specs.Choice.{IsRange, IsLegal}
 use Rattle.gs_frames.specs.declared.range.Range.{Range}
 use Rattle.gs_stream.specs.Video.{video_stream}
+use Rattle.gs_stream.specs.Audio.{audio_stream, audio_units}
 use Rattle.gs_stream.specs.Paired.{invalid_ranges}
 use Rattle.gs_enet.specs.declared.event.PeerEvent.{PeerEvent}
 use Rattle.gs_enet.specs.declared.event.PeerEvent.TheVariants as event
@@ -113,6 +114,7 @@ pub record Gains (settings : StreamSettings) (ticks : List Tick) (old new : List
   pub goes_on : has_ended new ≡ false
   pub frames_same : frames new ≡ frames old
   pub stream_same : video_stream settings ticks new ≡ video_stream settings ticks old
+  pub sound_same : audio_stream settings ticks new ≡ audio_stream settings ticks old
   pub invalid : invalid_ranges new ≡ invalid_ranges old ++ ranges
 
 nothing_gained : (settings : StreamSettings) (ticks : List Tick) (h : List Entry) → IsLegal ticks h → has_ended h ≡ false → Gains settings ticks h h []
@@ -121,6 +123,7 @@ nothing_gained settings ticks h legal on = record {
   goes_on = on;
   frames_same = refl;
   stream_same = refl;
+  sound_same = refl;
   invalid = sym (append-nil (invalid_ranges h));
 }
 
@@ -138,22 +141,22 @@ entered_value session e h on = by (has_ended h) on where
 range_gains : (settings : StreamSettings) (ticks : List Tick) (session a b : ℕ) (h : List Entry) → IsLegal ticks h → has_ended h ≡ false
     → IsRange (frames h) a b
     → Gains settings ticks h (entered_unless_ended session (range_entry (frames h) (pos a) (pos b)) h).value (record { first = a; last = b } ∷ [])
-unfolding video_stream
+unfolding video_stream audio_stream audio_units
 range_gains settings ticks session a b h legal on is =
     let e = range_entry (frames h) (pos a) (pos b) in
     let kind : e ≡ entry.Invalid a b =
     cond-true (is_sent_range (frames h) (pos a) (pos b)) (entry.Invalid a b) (entry.Ended (pos a) (pos b)) (range_is_sent (frames h) a b is) in
     subst (λ (new : List Entry). Gains settings ticks h new (record { first = a; last = b } ∷ []))
     (sym (entered_value session e h on ∙ ap (λ (x : Entry). x ∷ h) kind))
-    (record { legal = (legal, on, is); goes_on = on; frames_same = refl; stream_same = refl; invalid = refl })
+    (record { legal = (legal, on, is); goes_on = on; frames_same = refl; stream_same = refl; sound_same = refl; invalid = refl })
 
 -- so is a request for an IDR frame
 idr_gains : (settings : StreamSettings) (ticks : List Tick) (session : ℕ) (h : List Entry) → IsLegal ticks h → has_ended h ≡ false
     → Gains settings ticks h (entered_unless_ended session entry.IdrAsked h).value []
-unfolding video_stream
+unfolding video_stream audio_stream audio_units
 idr_gains settings ticks session h legal on =
     subst (λ (new : List Entry). Gains settings ticks h new []) (sym (entered_value session entry.IdrAsked h on))
-    (record { legal = (legal, on, tt); goes_on = on; frames_same = refl; stream_same = refl; invalid = sym (append-nil (invalid_ranges h)) })
+    (record { legal = (legal, on, tt); goes_on = on; frames_same = refl; stream_same = refl; sound_same = refl; invalid = sym (append-nil (invalid_ranges h)) })
 
 act_gains : (settings : StreamSettings) (ticks : List Tick) (session channel : ℕ) (a : Act) (h : List Entry) → IsLegal ticks h → has_ended h ≡ false
     → IsGoodAct (frames h) a → Gains settings ticks h (acts_on session channel a h).value (act_ranges a)
@@ -173,6 +176,7 @@ gains_more settings ticks old mid new first rest a b = record {
   goes_on = b.goes_on;
   frames_same = b.frames_same ∙ a.frames_same;
   stream_same = b.stream_same ∙ a.stream_same;
+  sound_same = b.sound_same ∙ a.sound_same;
   invalid = b.invalid ∙ ap (λ (l : List Range). l ++ rest) a.invalid ∙ append_assoc (invalid_ranges old) first rest;
 }
 

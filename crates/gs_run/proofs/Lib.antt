@@ -11,6 +11,7 @@ pub mod Standing
 pub mod Deeds
 pub mod ClientDeeds
 pub mod Openings
+pub mod SentSound
 pub mod Runs
 pub mod Reporting
 pub mod PartLines

@@ -1,11 +1,13 @@
 -- A session that is opened is one that every deed keeps.
 use Rattle.std.proofs.Common.{◌≡◌, ◌≤◌, ◌-◌, ℕ, true, ◌&&◌, [], refl, arith}
 use Rattle.std.specs.Prelude.{nat_le}
+use Rattle.std.specs.List.{Contains}
 use Rattle.std.proofs.lemmas.Bool.{and_parts, leb-true}
 use Rattle.std.proofs.lemmas.List.Elements.{All-nil}
 use Rattle.gs_tape.specs.Limits.{most_audio}
 use Rattle.gs_frames.specs.Asks.{asks, asks_of}
 use Rattle.gs_stream.specs.Video.{video_stream}
+use Rattle.gs_stream.specs.Audio.{audio_stream}
 use Rattle.gs_stream.specs.Paired.{IsOfStream}
 use Rattle.gs_run.specs.CaptureFile.{CaptureFile}
 use Rattle.gs_run.specs.Connection.{both_written_out, settled}
@@ -49,6 +51,7 @@ new_keeps file host_id now number packet percentage minimum window capture least
       };
       goes_on = refl;
       sent = All-nil (IsOfStream (video_stream settings.stream file.ticks []));
+      sound_sent = All-nil (Contains (audio_stream settings.stream file.ticks []));
       both = new_gives 0 number number now host_id 0 number now;
       calm_client = record { heard_few = λ c. omega arith; given_few = λ c. omega arith };
       calm_host = record { heard_few = λ c. omega arith; given_few = λ c. omega arith };

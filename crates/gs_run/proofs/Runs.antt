@@ -12,6 +12,9 @@ use Rattle.gs_frames.specs.declared.range.Range.{Range}
 use Rattle.gs_frames.specs.Asks.{asks}
 use Rattle.gs_stream.proofs.HandedSent.{handed_were_sent}
 use Rattle.gs_pair.proofs.Joined.{references_were_handed}
+use Rattle.gs_audio.specs.PlayedLaws.{PlayedUnitsWereSent}
+use Rattle.gs_audio.proofs.PlayedRise.{played-rise}
+use Rattle.gs_stream.specs.Audio.{audio_units}
 use Rattle.gs_stream.specs.Paired.{invalid_ranges}
 use Rattle.gs_enet.specs.Record.{messages_on, given_on}
 use Rattle.gs_enet.proofs.Lists.{Each}
@@ -26,7 +29,7 @@ use Rattle.gs_run.specs.Pump.{marked}
 use Rattle.gs_run.specs.Refusal.{Refusal, is_client_open, has_made_most, is_allowed, refused_unless, refusal_in, refusal}
 use Rattle.gs_run.specs.Done.{done_in, settled_in, after_in, all_timed, after, unless_refused, ran_on, ran}
 use Rattle.gs_run.specs.Totals.{parts_of}
-use Rattle.gs_run.specs.RunLaws.{IsCapture, OfEachPart, IsPairedPart, RunsArePaired, HandsCaptured, RunsHandCapturedUnits, HandsReferences, RunsHandReferences, TellsInOrder, RunsTellInOrder}
+use Rattle.gs_run.specs.RunLaws.{IsCapture, OfEachPart, IsPairedPart, RunsArePaired, HandsCaptured, RunsHandCapturedUnits, HandsReferences, RunsHandReferences, PlaysCaptured, RunsPlayCapturedUnits, TellsInOrder, RunsTellInOrder}
 use Rattle.gs_run.proofs.TwoSides.{in_order_from}
 use Rattle.gs_run.proofs.Heard.{IsFitting}
 use Rattle.gs_run.proofs.Asking.{IsOther, frames_few, is_prefix}
@@ -34,6 +37,7 @@ use Rattle.gs_run.proofs.Standing.{IsKeptPart, settled_keeps}
 use Rattle.gs_run.proofs.Deeds.{each_front, up_keeps, down_keeps, timed_keeps, turn_keeps}
 use Rattle.gs_run.proofs.ClientDeeds.{video_keeps, audio_keeps, reset_keeps, event_keeps, idr_keeps, close_keeps}
 use Rattle.gs_run.proofs.Openings.{opened_keeps}
+use Rattle.gs_run.proofs.SentSound.{session_units, sound_is_of_units}
 
 -- ---- a session
 
@@ -178,6 +182,7 @@ paired ticks part k = record {
   window = k.window;
   history = k.history;
   paired = record { sent = k.sent; asked = asked_for ticks part k };
+  sound = k.sound_sent;
   goes_on = k.goes_on;
 }
 
@@ -190,6 +195,15 @@ runs_hand_captured_units = of_kept HandsCaptured (λ ticks part k. handed_were_s
 pub runs_hand_references : RunsHandReferences
 runs_hand_references = of_kept HandsReferences (λ ticks part k.
     references_were_handed part.settings ticks part.history part.came k.window k.history (paired ticks part k).paired)
+
+-- by the law of what is played of a sender's datagrams
+pub runs_play_captured_units : PlayedUnitsWereSent → RunsPlayCapturedUnits
+runs_play_captured_units were_sent = of_kept PlaysCaptured (λ ticks part k. record {
+  units = were_sent part.settings.stream (audio_units ticks part.history) part.sound k.history.limits
+      (session_units part.settings.stream ticks part.history k.history)
+      (sound_is_of_units part.settings.stream ticks part.history part.sound k.sound_sent);
+  rising = played-rise part.settings.stream part.sound;
+})
 
 pub runs_tell_in_order : RunsTellInOrder
 runs_tell_in_order = of_kept TellsInOrder (λ ticks part k. in_order_from part.client.peer part.host.peer k.both.0)

@@ -20,19 +20,21 @@ use Rattle.gs_enet.proofs.Kept.{giving, given_on-own, given_on-apart}
 use Rattle.gs_enet.proofs.Acts.{act_both}
 use Rattle.gs_run.specs.Session.{Owed, Part, request_channel}
 use Rattle.gs_run.specs.Connection.{written_within, written_out, all_told, both_written_out, owed_message, with_owed, settled}
+use Rattle.gs_run.specs.RunLaws.{AreOfSound}
 use Rattle.gs_run.proofs.Calm.{IsCalm, calm_same}
 use Rattle.gs_run.proofs.TwoSides.{AreBoth, swapped, out_both, told_both}
 use Rattle.gs_run.proofs.Uses.{KeepsAll, calm_kept, kept_write}
 use Rattle.gs_run.proofs.Heard.{ranges_told, IsFitting}
 use Rattle.gs_run.proofs.Asking.{IsOther, lost_of}
 
-pub record IsKept (ticks : List Tick) (settings : ClientSettings) (h : List Entry) (came : List Arrival) (client host : Side)
-    (owed : List Owed) : Type 0 where
+pub record IsKept (ticks : List Tick) (settings : ClientSettings) (h : List Entry) (came : List Arrival) (sound : List (List ℕ))
+    (client host : Side) (owed : List Owed) : Type 0 where
   -- the streams
   pub window : HasWindow settings
   pub history : IsHostHistory settings.stream ticks h
   pub goes_on : has_ended h ≡ false
   pub sent : AreOfHistory settings ticks h came
+  pub sound_sent : AreOfSound settings.stream ticks h sound
   -- the connection
   pub both : AreBoth client host
   pub calm_client : IsCalm client.peer
@@ -48,18 +50,20 @@ pub record IsKept (ticks : List Tick) (settings : ClientSettings) (h : List Entr
   pub acted : invalid_ranges h ≡ ranges_told host.peer.told
 
 abbrev pub IsKeptPart : List Tick → Part → Type 0
-IsKeptPart ticks part = IsKept ticks part.settings part.history part.came part.client part.host part.owed
+IsKeptPart ticks part = IsKept ticks part.settings part.history part.came part.sound part.client part.host part.owed
 
 -- ---- a side moves, and its user's calls stay
 
-pub client_moves : {ticks : List Tick} {settings : ClientSettings} {h : List Entry} {came : List Arrival} {client host : Side} {owed : List Owed}
+pub client_moves : {ticks : List Tick} {settings : ClientSettings} {h : List Entry} {came : List Arrival} {sound : List (List ℕ)} {client host : Side}
+    {owed : List Owed}
     → (moved : Side) → AreBoth moved host → IsCalm moved.peer → moved.peer.given ≡ client.peer.given
-    → IsKept ticks settings h came client host owed → IsKept ticks settings h came moved host owed
+    → IsKept ticks settings h came sound client host owed → IsKept ticks settings h came sound moved host owed
 client_moves {client = client} moved both calm same k = record {
   window = k.window;
   history = k.history;
   goes_on = k.goes_on;
   sent = k.sent;
+  sound_sent = k.sound_sent;
   both = both;
   calm_client = calm;
   calm_host = k.calm_host;
@@ -72,14 +76,16 @@ client_moves {client = client} moved both calm same k = record {
   acted = k.acted;
 }
 
-pub host_moves : {ticks : List Tick} {settings : ClientSettings} {h : List Entry} {came : List Arrival} {client host : Side} {owed : List Owed}
+pub host_moves : {ticks : List Tick} {settings : ClientSettings} {h : List Entry} {came : List Arrival} {sound : List (List ℕ)} {client host : Side}
+    {owed : List Owed}
     → (moved : Side) → AreBoth client moved → IsCalm moved.peer → moved.peer.told ≡ host.peer.told
-    → IsKept ticks settings h came client host owed → IsKept ticks settings h came client moved owed
+    → IsKept ticks settings h came sound client host owed → IsKept ticks settings h came sound client moved owed
 host_moves moved both calm same k = record {
   window = k.window;
   history = k.history;
   goes_on = k.goes_on;
   sent = k.sent;
+  sound_sent = k.sound_sent;
   both = both;
   calm_client = k.calm_client;
   calm_host = calm;
@@ -164,8 +170,8 @@ calm_sent c bytes r s more same room calm = record {
 
 -- the first that is owed is given
 pub gives_owed : (ticks : List Tick) (part : Part) (first : Owed) (rest : List Owed) → can_send part.client.peer request_channel ≡ true
-    → IsKept ticks part.settings part.history part.came part.client part.host (first ∷ rest)
-    → IsKept ticks part.settings part.history part.came (acted (Send request_channel (owed_message first)) part.client) part.host rest
+    → IsKept ticks part.settings part.history part.came part.sound part.client part.host (first ∷ rest)
+    → IsKept ticks part.settings part.history part.came part.sound (acted (Send request_channel (owed_message first)) part.client) part.host rest
 gives_owed ticks part first rest can k =
     let bytes = owed_message first in
     let moved = acted (Send request_channel bytes) part.client in
@@ -178,6 +184,7 @@ gives_owed ticks part first rest can k =
       history = k.history;
       goes_on = k.goes_on;
       sent = k.sent;
+      sound_sent = k.sound_sent;
       both = act_both (Send request_channel bytes) part.client part.host k.both;
       calm_client = calm_sent request_channel bytes old moved.peer more (heard_same request_channel bytes part.client) (omega (arith, few)) k.calm_client;
       calm_host = k.calm_host;
@@ -193,7 +200,7 @@ gives_owed ticks part first rest can k =
     }
 
 pub with_owed_keeps : (ticks : List Tick) (os : List Owed) (part : Part)
-    → IsKept ticks part.settings part.history part.came part.client part.host os → IsKeptPart ticks (with_owed os part)
+    → IsKept ticks part.settings part.history part.came part.sound part.client part.host os → IsKeptPart ticks (with_owed os part)
 with_owed_keeps ticks [] part k = k
 with_owed_keeps ticks (first ∷ rest) part k =
     by (can_send part.client.peer request_channel) refl

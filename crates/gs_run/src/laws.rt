@@ -10,14 +10,17 @@ ghost use Rattle.gs_run.specs.RunLaws.{
   RunsArePaired,
   RunsHandCapturedUnits,
   RunsHandReferences,
+  RunsPlayCapturedUnits,
   RunsTellInOrder,
   SchedulesHaveOneRun,
 };
 
+use gs_audio::played_units_were_sent;
+
 /// A law: behind any deeds of a run, over any capture file within its limits, each session's history is one that
-/// a host may have and nothing ended it, each video datagram that its client was given went out, and what its host
-/// took as invalid is a prefix of what its client asked for. However datagrams are lost, repeated or reordered,
-/// and whenever a decoder is reset.
+/// a host may have and nothing ended it, each video and audio datagram that its client was given went out, and what
+/// its host took as invalid is a prefix of what its client asked for. However datagrams are lost, repeated or
+/// reordered, and whenever a decoder is reset.
 pub fn runs_are_paired()
     ensures { RunsArePaired }
 {}
@@ -32,6 +35,15 @@ pub fn runs_hand_captured_units()
 pub fn runs_hand_references()
     ensures { RunsHandReferences }
 {}
+
+/// A law: each audio unit that a client played is, byte for byte, the captured unit of its number: that of this place
+/// among all units that its host's history put, tick by tick. The numbers rise, so that none is played twice. It rests on
+/// the law that is called.
+pub fn runs_play_captured_units()
+    ensures { RunsPlayCapturedUnits }
+{
+    played_units_were_sent();
+}
 
 /// A law: what a host was told on a channel is what its client gave there first, in order, and all of it once the
 /// host read that its client closed.

@@ -12,6 +12,6 @@
 mod laws;
 
 pub use laws::{
-    runs_are_paired, runs_hand_captured_units, runs_hand_references, runs_report_streams,
-    runs_tell_in_order, schedules_have_one_run,
+    runs_are_paired, runs_hand_captured_units, runs_hand_references, runs_play_captured_units,
+    runs_report_streams, runs_tell_in_order, schedules_have_one_run,
 };
