@@ -18,4 +18,9 @@ pub mod PartLines
 pub mod StreamLines
 pub mod StateLines
 pub mod OneRun
+pub mod SideDeliveries
+pub mod PartDeliveries
+pub mod Pumps
+pub mod StepsDecided
+pub mod SomeRun
 pub mod InputLines

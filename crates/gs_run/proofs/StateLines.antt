@@ -59,7 +59,7 @@ lines_of-append kind n xs ys = filter-append (λ (r : Report). kind r.output && 
 
 -- ---- sessions by number
 
-here_replaced : (sessions : List Session) (k : ℕ) (old new : Session) → slice_get sessions k ≡ Some old → slice_get (replaced sessions k new) k ≡ Some new
+pub here_replaced : (sessions : List Session) (k : ℕ) (old new : Session) → slice_get sessions k ≡ Some old → slice_get (replaced sessions k new) k ≡ Some new
 here_replaced [] k old new e = absurd cc
 here_replaced (s ∷ sessions) zero old new e = refl
 here_replaced (s ∷ sessions) (suc k) old new e = here_replaced sessions k old new e

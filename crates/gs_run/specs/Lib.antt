@@ -13,6 +13,8 @@ pub mod Pump
 pub mod Refusal
 pub mod Done
 pub mod Line
+pub mod Deliveries
+pub mod PumpLaws
 pub mod Totals
 pub mod Run
 pub mod Generated

@@ -87,3 +87,7 @@ abbrev pub SchedulesHaveOneRun : Type 0
 SchedulesHaveOneRun =
     (file : CaptureFile) (lines : List (List ℕ)) (first second : Run)
     → IsRun file lines first → IsRun file lines second → first ≡ second
+
+-- and it has one, whatever its lines and the file hold
+abbrev pub SchedulesHaveARun : Type 0
+SchedulesHaveARun = (file : CaptureFile) (lines : List (List ℕ)) → (run : Run) × IsRun file lines run

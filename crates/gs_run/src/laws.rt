@@ -1,5 +1,6 @@
 // Laws about runs, each proved of the definitions.
 
+ghost use Rattle.gs_run.specs.PumpLaws.{PumpsAdvance, PumpsEnd};
 ghost use Rattle.gs_run.specs.ReportLaws.{
   RunsReportHanded,
   RunsReportAsked,
@@ -12,6 +13,7 @@ ghost use Rattle.gs_run.specs.RunLaws.{
   RunsHandReferences,
   RunsPlayCapturedUnits,
   RunsTellInOrder,
+  SchedulesHaveARun,
   SchedulesHaveOneRun,
 };
 
@@ -64,4 +66,20 @@ pub fn runs_report_streams()
 /// the run ends.
 pub fn schedules_have_one_run()
     ensures { SchedulesHaveOneRun }
+{}
+
+/// A law: every schedule has a run over every capture file, whatever its lines and the file hold.
+pub fn schedules_have_a_run()
+    ensures { SchedulesHaveARun }
+{}
+
+/// A law: a number bounds the deliveries that a pump may still make, and each delivery lessens it, whatever the state
+/// of the session and wherever the pump is. So it is a measure for a loop that pumps.
+pub fn pumps_advance()
+    ensures { PumpsAdvance }
+{}
+
+/// A law: in any state a pump has its deeds, so it ends.
+pub fn pumps_end()
+    ensures { PumpsEnd }
 {}

@@ -12,6 +12,7 @@
 mod laws;
 
 pub use laws::{
-    runs_are_paired, runs_hand_captured_units, runs_hand_references, runs_play_captured_units,
-    runs_report_streams, runs_tell_in_order, schedules_have_one_run,
+    pumps_advance, pumps_end, runs_are_paired, runs_hand_captured_units, runs_hand_references,
+    runs_play_captured_units, runs_report_streams, runs_tell_in_order, schedules_have_a_run,
+    schedules_have_one_run,
 };
