@@ -1,0 +1,85 @@
+-- A capture file that is read as a run captures: what was captured, what of it is kept, what is still to be read.
+use Rattle.std.specs.Prelude.{◌≡◌, ℕ, ◌+◌, ◌-◌, ◌<◌, ◌≤◌, Bool, true, false, List, length, map, take, drop, Option, Some, None, Result, Ok, Err, IfSome, ⊤}
+use Rattle.std.specs.List.{All, range_with_len}
+use Rattle.gs_tape.specs.Tick.{Tick}
+use Rattle.gs_tape.specs.Limits.{most_ticks, IsTickWithinLimits}
+use Rattle.gs_tape.specs.Reading.{Fault, Head, Read, head_at, ticks_of, first_fault, audio_length, audio_duration}
+use Rattle.gs_tape.specs.Tape.{Opened, unread}
+use Rattle.gs_tape.specs.Errors.{fault_of}
+use Rattle.gs_tape.specs.declared.error.TapeError.{TapeError}
+use Rattle.gs_tape.specs.declared.stage.Stage.TheVariants.{Open}
+
+-- The open file; whether a tick was read that there was no memory to keep; how many ticks were captured, and the newest
+-- of them, oldest first.
+pub record Feeding : Type 0 where
+  pub tape : Opened
+  pub lost : Bool
+  pub count : ℕ
+  pub kept : List Tick
+
+-- the number of the last tick that isn't kept any more
+abbrev pub forgotten : Feeding → ℕ
+forgotten feed = feed.count - length feed.kept
+
+-- what is kept is numbered up to the newest tick captured, which is never forgotten, and keeps the file's limits
+pub record IsSound (feed : Feeding) : Type 0 where
+  pub next : feed.lost ≡ false → feed.tape.stage ≡ Open → feed.tape.before.number ≡ feed.count + 1
+  pub few : feed.count ≤ most_ticks
+  pub few_kept : length feed.kept ≤ feed.count
+  pub has_newest : 0 < feed.count → 0 < length feed.kept
+  pub numbers : map (λ t. t.number) feed.kept ≡ range_with_len (forgotten feed + 1) (length feed.kept)
+  pub within : All (λ t. IsTickWithinLimits feed.tape.audio t.number t) feed.kept
+
+-- What was captured are the first of these ticks, and what is kept the last of those.
+pub record IsOf (feed : Feeding) (ticks : List Tick) : Type 0 where
+  pub captured : feed.count ≤ length ticks
+  pub kept_are : feed.kept ≡ drop (forgotten feed) (take feed.count ticks)
+
+-- The file has these ticks and then this fault, if there is one; those not captured are still to be read.
+pub record StandsFor (feed : Feeding) (left : Option (List ℕ)) (ticks : List Tick) (fault : Option Fault) : Type 0 where
+  pub is_of : IsOf feed ticks
+  pub unread_is : unread feed.tape left ≡ Some (record { ticks = drop feed.count ticks; fault = fault })
+
+-- a feed of a file with these bytes, before the first capture
+pub record OpensAs (bytes : List ℕ) (feed : Feeding) (left : Option (List ℕ)) : Type 0 where
+  pub head : Head × List ℕ
+  pub head_is : head_at (length bytes) bytes ≡ Ok head
+  pub audio_is : feed.tape.audio ≡ audio_length bytes
+  pub duration_is : feed.tape.duration ≡ audio_duration bytes
+  pub stands : StandsFor feed left (ticks_of bytes) (first_fault bytes)
+
+-- a file that is refused has no tick before that fault
+pub record FailsAs (bytes : List ℕ) (fault : Fault) : Type 0 where
+  pub no_ticks : length (ticks_of bytes) ≡ 0
+  pub fault_is : first_fault bytes ≡ Some fault
+
+abbrev pub Opens : Option (List ℕ) → Option (List ℕ) → Result Feeding TapeError → Type 0
+Opens None left r = ⊤
+Opens (Some bytes) left (Ok feed) = OpensAs bytes feed left
+Opens (Some bytes) left (Err e) = IfSome (fault_of e) (FailsAs bytes)
+
+-- A tick is captured exactly while the file has one that wasn't. Behind them comes the file's fault, or its end.
+abbrev pub Captures : ℕ → List Tick → Option Fault → Result Bool TapeError → Type 0
+Captures count ticks fault (Ok true) = count < length ticks
+Captures count ticks fault (Ok false) = (length ticks ≡ count) × (fault ≡ None)
+Captures count ticks fault (Err e) = IfSome (fault_of e) (λ why. (length ticks ≡ count) × (fault ≡ Some why))
+
+-- where an answer isn't of a source that failed or of want of memory
+abbrev pub IfTold : {A : Type 0} → Result A TapeError → Type 0 → Type 0
+IfTold (Ok x) P = P
+IfTold (Err e) P = IfSome (fault_of e) (λ _. P)
+
+abbrev pub count_behind : ℕ → Result Bool TapeError → ℕ
+count_behind count (Ok true) = count + 1
+count_behind count (Ok false) = count
+count_behind count (Err e) = count
+
+-- the file ends with this fault, or with none
+abbrev pub EndsWith : {A : Type 0} → Option Fault → Result A TapeError → Type 0
+EndsWith fault (Ok x) = fault ≡ None
+EndsWith fault (Err e) = IfSome (fault_of e) (λ why. fault ≡ Some why)
+
+-- the same of all that is read of it, where that is told
+abbrev pub ReadEndsWith : {A : Type 0} → Option Read → Result A TapeError → Type 0
+ReadEndsWith None r = ⊤
+ReadEndsWith (Some all) r = EndsWith all.fault r
