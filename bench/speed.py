@@ -40,10 +40,14 @@ for d, p in CODES:
     WORKLOADS.append((f"restore {p} of {d}", ["restore", d, p, LEN, p], d * LEN, f"isal_restore_rows_known_{d}_{p}"))
 # rows of messages and not of bytes: two peers joined in memory, beside two over loopback, which pay for sockets too
 BATCHES = [1, 64]
-MESSAGES = {f"messages by {b}" for b in BATCHES}
+COUNTED = {f"messages by {b}" for b in BATCHES}
 for b in BATCHES:
     WORKLOADS.append((f"messages by {b}", ["messages", b], 1, f"enet_loopback_batches_of_{b}"))
-WORKLOADS.append(("split 41000", ["split", 1392, 20, 41_000], 41_000, None))
+# a frame split, and received with nothing lost and with one datagram of twenty lost
+FRAME = [1392, 20, 41_000]
+WORKLOADS.append(("split", ["split", *FRAME], FRAME[2], None))
+WORKLOADS.append(("receive", ["receive", *FRAME, 0], FRAME[2], None))
+WORKLOADS.append(("receive, 1 of 20 lost", ["receive", *FRAME, 20], FRAME[2], None))
 
 
 def clock():
@@ -121,12 +125,12 @@ def main():
                     peers[line] = max(peers.get(line, 0), figure)
     unit = "processor second" if args.processor else "second"
     print(f"{platform.machine()}, shards of {LEN} bytes, best of {args.rounds} rounds, MB of data a {unit}")
-    print(f"{'workload':<20}{'gsbench':>10}{'peer':>10}{'ratio':>8}")
+    print(f"{'workload':<24}{'gsbench':>10}{'peer':>10}{'ratio':>8}")
     for name, _, _, line in WORKLOADS:
         peer = peers.pop(line, None)
-        digits = 2 if name in MESSAGES else 0
+        digits = 2 if name in COUNTED else 0
         rest = f"{peer / 1e6:>10.{digits}f}{best[name] / peer:>8.2f}" if peer else f"{'-':>10}{'-':>8}"
-        print(f"{name:<20}{best[name] / 1e6:>10.{digits}f}{rest}")
+        print(f"{name:<24}{best[name] / 1e6:>10.{digits}f}{rest}")
     print("messages: millions a second; the peer's go through the system's sockets, those of gsbench stay in memory")
 
 

@@ -1,32 +1,54 @@
 // The table of workloads.
 
-ghost use Rattle.std.specs.Prelude.{◌<◌, length, IfOk, IsErr};
+ghost use Rattle.std.specs.Prelude.{◌≡◌, ◌<◌, IfOk};
+ghost use Rattle.gsbench.specs.Workloads.{IsJudged, IsJudgedBy, first_word, limits_of, misfit, misfit_at};
 
 use crate::report::{Report, Stop};
+use crate::workload::{Workload, workload_named};
 use crate::{codes, frames, messages, receive, rows};
 use std::alloc::Global;
 
-/// Runs the workload that the first word names.
-pub fn bench(alloc: Global, words: &[String]) -> Result<Report, Stop>
-    ensures words { length words.now < 3 → IsErr result }
+// The first word, no bytes where there is none.
+fn first_word(words: &[String]) -> &[u8]
+    ensures { result.now ≡ first_word words.now }
+{
+    match words.first() {
+        Some(word) => word.as_bytes(),
+        None => b"",
+    }
+}
+
+// Runs a workload.
+fn run(alloc: Global, workload: Workload, words: &[String]) -> Result<Report, Stop>
+    ensures usage { IsJudged (limits_of words.now workload) words.now result }
     ensures bytes { IfOk result (λ report. 0 < report.bytes) }
 {
-    let name = words.first().map(|word| word.as_bytes());
-    if name == Some(b"mul_add") {
-        rows::run(alloc, words)
-    } else if name == Some(b"encode") {
-        codes::run_encode(alloc, words)
-    } else if name == Some(b"parity") {
-        codes::run_parity(alloc, words)
-    } else if name == Some(b"restore") {
-        codes::run_restore(alloc, words)
-    } else if name == Some(b"messages") {
-        messages::run(alloc, words)
-    } else if name == Some(b"receive") {
-        receive::run(alloc, words)
-    } else if name == Some(b"split") {
-        frames::run_split(alloc, words)
-    } else {
-        Err(Stop::Usage { word: 1 })
+    match workload {
+        Workload::MulAdd => rows::run(alloc, words),
+        Workload::Encode => codes::run_encode(alloc, words),
+        Workload::Parity => codes::run_parity(alloc, words),
+        Workload::Restore => codes::run_restore(alloc, words),
+        Workload::Messages => messages::run(alloc, words),
+        Workload::Receive => receive::run(alloc, words),
+        Workload::Split => frames::run_split(alloc, words),
     }
+}
+
+// Runs the workload that was named, if one was.
+fn run_named(alloc: Global, workload: Option<Workload>, words: &[String]) -> Result<Report, Stop>
+    ensures usage { IsJudgedBy (misfit_at words.now workload) result }
+    ensures bytes { IfOk result (λ report. 0 < report.bytes) }
+{
+    match workload {
+        Some(workload) => run(alloc, workload, words),
+        None => Err(Stop::Usage { word: 1 }),
+    }
+}
+
+/// Runs the workload that the first word names.
+pub fn bench(alloc: Global, words: &[String]) -> Result<Report, Stop>
+    ensures usage { IsJudgedBy (misfit words.now) result }
+    ensures bytes { IfOk result (λ report. 0 < report.bytes) }
+{
+    run_named(alloc, workload_named(first_word(words)), words)
 }

@@ -1,10 +1,12 @@
 // The video code: parity shards written, and absent shards restored.
-ghost use Rattle.std.specs.Prelude.{◌≡◌, ◌≢◌, ◌+◌, ◌*◌, ◌<◌, ◌++◌, length, IfOk, IsErr};
+ghost use Rattle.std.specs.Prelude.{◌≡◌, ◌+◌, ◌-◌, ◌*◌, ◌<◌, ◌++◌, length, IfOk, MatchResult, Some};
 ghost use Rattle.gs_rs.specs.Codeword.{IsBlock};
 ghost use Rattle.gs_rs.specs.Shape.{shard_count, IsCode};
+ghost use Rattle.gsbench.specs.Words.{number_word};
+ghost use Rattle.gsbench.specs.Workloads.{IsJudged, IsStopAtCode, encode_limits, parity_limits, restore_limits};
 
-use crate::bytes::{SEED, checksum, made};
 use crate::report::{Report, Stop};
+use crate::sample::{SEED, checksum, made};
 use crate::words::{expect_end, number_at};
 use gs_rs::{Code, MAX_SHARDS};
 use std::alloc::Global;
@@ -13,7 +15,10 @@ const MAX_LEN: u32 = 1 << 16;
 
 // The code of the words at places 1 and 2.
 fn code_of(words: &[String]) -> Result<Code, Stop>
-    ensures { IfOk result (λ code. IsCode code) }
+    ensures code { IfOk result (λ code. IsCode code) }
+    ensures words { MatchResult result (λ code. (number_word words.now 1 1 255 ≡ Some code.data)
+        × (number_word words.now 2 0 (255 - code.data) ≡ Some code.parity))
+        (λ stop. IsStopAtCode words.now stop) }
 {
     let data = number_at(words, 1, 1, 255)?;
     let parity = number_at(words, 2, 0, 255 - data)?;
@@ -22,7 +27,7 @@ fn code_of(words: &[String]) -> Result<Code, Stop>
 
 /// `encode D P LEN COUNT`.
 pub fn run_encode(alloc: Global, words: &[String]) -> Result<Report, Stop>
-    ensures words { length words.now ≢ 5 → IsErr result }
+    ensures usage { IsJudged (encode_limits words.now) words.now result }
     ensures bytes { IfOk result (λ report. 0 < report.bytes) }
 {
     let code = code_of(words)?;
@@ -53,7 +58,7 @@ fn encode_often(code: &Code, len: usize, source: &mut [u8], parity: &mut [u8], c
 
 /// `parity D P LEN SEED COUNT`: the parity of the bytes from a seed, which other programs can print too.
 pub fn run_parity(alloc: Global, words: &[String]) -> Result<Report, Stop>
-    ensures words { length words.now ≢ 6 → IsErr result }
+    ensures usage { IsJudged (parity_limits words.now) words.now result }
     ensures bytes { IfOk result (λ report. 0 < report.bytes) }
 {
     let code = code_of(words)?;
@@ -74,7 +79,7 @@ pub fn run_parity(alloc: Global, words: &[String]) -> Result<Report, Stop>
 
 /// `restore D P LEN LOST COUNT`.
 pub fn run_restore(alloc: Global, words: &[String]) -> Result<Report, Stop>
-    ensures words { length words.now ≢ 6 → IsErr result }
+    ensures usage { IsJudged (restore_limits words.now) words.now result }
     ensures bytes { IfOk result (λ report. 0 < report.bytes) }
 {
     let code = code_of(words)?;

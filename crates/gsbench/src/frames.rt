@@ -1,34 +1,29 @@
 // Frames split into datagrams.
-ghost use Rattle.std.specs.Prelude.{◌≡◌, ◌≢◌, ◌<◌, ◌≤◌, IfOk, IsErr, length};
+ghost use Rattle.std.specs.Prelude.{◌≡◌, ◌+◌, ◌-◌, ◌<◌, ◌≤◌, IfOk, Some, length, take};
+ghost use Rattle.std.specs.List.{slice_get};
+ghost use Rattle.gs_bytes.specs.Limits.{most_unit};
+ghost use Rattle.gs_frames.specs.Datagrams.{OutgoingFrame, frame_datagrams};
+ghost use Rattle.gs_split.specs.Splitting.{IsLoaded};
+ghost use Rattle.gsbench.specs.Workloads.{IsJudged, split_limits};
 
-use crate::bytes::{SEED, checksum, made};
 use crate::report::{Report, Stop};
+use crate::sample::{SEED, checksum, made};
+use crate::settings::settings_of;
 use crate::words::{expect_end, number_at};
 use gs_bytes::MOST_UNIT;
-use gs_rtp::{FRAME_GREATEST, PACKET_GREATEST, PACKET_LEAST, PERCENTAGE_GREATEST, Settings};
+use gs_rtp::FRAME_GREATEST;
 use gs_split::Splitter;
 use std::alloc::Global;
 
-const KIND_IDR: u8 = 2;
+/// The kind of a frame that is coded by itself.
+pub const KIND_IDR: u8 = 2;
 
-// The longest datagram.
-const ROOM: usize = 1_456;
-
-// The settings of the words at places 1 and 2.
-fn settings_of(words: &[String]) -> Result<Settings, Stop> {
-    let packet = number_at(
-        words,
-        1,
-        u32::from(PACKET_LEAST),
-        u32::from(PACKET_GREATEST),
-    )?;
-    let percentage = number_at(words, 2, 0, u32::from(PERCENTAGE_GREATEST))?;
-    Settings::make(packet as u16, percentage as u8, 0, 60, 5, 0, 1).ok_or(Stop::Usage { word: 2 })
-}
+/// The longest datagram.
+pub const ROOM: usize = 1_456;
 
 /// `split Z P LEN COUNT`.
 pub fn run_split(alloc: Global, words: &[String]) -> Result<Report, Stop>
-    ensures words { length words.now ≢ 5 → IsErr result }
+    ensures usage { IsJudged split_limits words.now result }
     ensures bytes { IfOk result (λ report. 0 < report.bytes) }
 {
     let settings = settings_of(words)?;
@@ -47,7 +42,7 @@ pub fn run_split(alloc: Global, words: &[String]) -> Result<Report, Stop>
 
 // Splits so many frames with this unit, and leaves their last datagram.
 fn split_often(splitter: &mut Splitter, unit: &[u8], count: u32, out: &mut [u8])
-    requires limit { length unit.now ≤ 4000000 }
+    requires limit { length unit.now ≤ most_unit }
     requires room { 1456 ≤ length out.old }
     ensures { splitter.new.settings ≡ splitter.old.settings }
 {
@@ -57,12 +52,14 @@ fn split_often(splitter: &mut Splitter, unit: &[u8], count: u32, out: &mut [u8])
     }
 }
 
-// Writes the datagrams of the loaded frame, one after another to the same place.
+// Writes the datagrams of the loaded frame, one after another to the same place, and leaves the last.
 fn write_all(splitter: &mut Splitter, datagrams: u32, unit: &[u8], out: &mut [u8])
     requires datagrams { splitter.old.datagrams ≡ datagrams }
     requires unit { length unit.now ≡ splitter.old.unit_length }
     requires room { 1456 ≤ length out.old }
-    ensures { splitter.new ≡ splitter.old }
+    ensures kept { splitter.new ≡ splitter.old }
+    ensures last { (sent : OutgoingFrame) → IsLoaded splitter.old sent → sent.unit ≡ unit.now → 0 < datagrams
+        → slice_get (frame_datagrams splitter.old.settings sent) (datagrams - 1) ≡ Some (take (splitter.old.settings.packet + 16) out.new) }
 {
     'datagrams: for k in 0..datagrams {
         splitter.datagram(k, unit, out);

@@ -7,28 +7,30 @@
 //! | `parity D P LEN SEED COUNT` | the same, on the bytes that a seed gives |
 //! | `restore D P LEN LOST COUNT` | writes the first LOST of the D data shards anew |
 //! | `messages BATCH COUNT` | brings a message of 16 bytes from one ENet peer to another in memory |
-//! | `receive Z P LEN EVERY COUNT` | takes the datagrams of a frame of one block, whose unit has LEN bytes, at packet size Z and percentage P, and hands it; each EVERY-th datagram is lost, none at 0 |
+//! | `receive Z P LEN EVERY COUNT` | takes the datagrams of a frame of LEN bytes at packet size Z and percentage P of parity, and hands it; each EVERY-th datagram is lost, none at 0 |
 //! | `split Z P LEN COUNT` | splits a frame of LEN bytes at packet size Z and percentage P of parity, and writes each datagram |
 //!
 //! It prints one line: a checksum of what the last turn left (FNV-1a of 32 bits), and how many bytes of
 //! data were gone through. So the time that it takes is that of a proved program, and no work can be left
 //! out. Messages are given BATCH at a time, and then all that either side writes is brought to the other;
-//! a message that isn't told is `untold`, with status 1. A word that doesn't fit or is missing is
-//! `usage: word W`, counted from 1, with status 2; want of memory has the status 12.
+//! a message that isn't told is `untold`, with status 1. The first word that doesn't fit or is missing is
+//! `usage: word W`, counted from 1, with status 2; want of memory is `out of memory`, with status 12. A number
+//! is decimal, without a sign or a leading zero.
 #![tactic(auto)]
 
 mod bench;
-mod bytes;
 mod codes;
 mod frames;
 mod messages;
 mod receive;
 mod report;
 mod rows;
+mod sample;
+mod settings;
 mod words;
+mod workload;
 
 use bench::bench;
-use report::Stop;
 use std::process::ExitCode;
 use std::{env, io};
 
@@ -36,20 +38,12 @@ fn main(rt: HostRuntime) -> io::Result<ExitCode> {
     let words = env::args(&rt)?.skip(1).collect::<Vec<String>>(rt.alloc())?;
     match bench(rt.alloc(), &words) {
         Ok(report) => {
-            println!(rt; "checksum {:08x} bytes {}", report.checksum, report.bytes)?;
+            println!(rt; "{report}")?;
             Ok(ExitCode::from(0))
         }
-        Err(Stop::Usage { word }) => {
-            eprintln!(rt; "usage: word {word}")?;
-            Ok(ExitCode::from(2))
-        }
-        Err(Stop::Untold) => {
-            eprintln!(rt; "untold")?;
-            Ok(ExitCode::from(1))
-        }
-        Err(Stop::OutOfMemory) => {
-            eprintln!(rt; "out of memory")?;
-            Ok(ExitCode::from(12))
+        Err(stop) => {
+            eprintln!(rt; "{stop}")?;
+            Ok(ExitCode::from(stop.status()))
         }
     }
 }

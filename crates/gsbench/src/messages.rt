@@ -1,8 +1,10 @@
 // Messages between two peers of one connection, which are joined in memory.
-ghost use Rattle.std.specs.Prelude.{◌≢◌, ◌<◌, length, IfOk, IsErr};
+ghost use Rattle.std.specs.Prelude.{◌≡◌, ◌<◌, IfErr, IfOk};
+ghost use Rattle.gsbench.specs.Report.{IsNoUsage};
+ghost use Rattle.gsbench.specs.Workloads.{IsJudged, messages_limits};
 
-use crate::bytes::checksum;
 use crate::report::{Report, Stop};
+use crate::sample::checksum;
 use crate::words::{expect_end, number_at};
 use gs_bytes::Text;
 use gs_enet::{Peer, PeerEvent};
@@ -22,7 +24,7 @@ const MOST_DATAGRAMS: u32 = 1000;
 
 /// `messages BATCH COUNT`: COUNT messages, of which BATCH are given before each writing.
 pub fn run(alloc: Global, words: &[String]) -> Result<Report, Stop>
-    ensures words { length words.now ≢ 3 → IsErr result }
+    ensures usage { IsJudged messages_limits words.now result }
     ensures bytes { IfOk result (λ report. 0 < report.bytes) }
 {
     let batch = number_at(words, 1, 1, MOST_BATCH)?;
@@ -45,17 +47,20 @@ pub fn run(alloc: Global, words: &[String]) -> Result<Report, Stop>
     })
 }
 
-// A client, a host, how many messages the host told, and the last of them.
+// A client, a host, how many messages the host told, the last of them, and room for a datagram.
 #[derive(Drop)]
 struct Line {
     client: Peer,
     host: Peer,
     told: u32,
     last: Option<Text>,
+    out: [u8; DATAGRAM],
 }
 
 impl Line {
-    fn connect(alloc: Global) -> Result<Line, Stop> {
+    fn connect(alloc: Global) -> Result<Line, Stop>
+        ensures { IfErr result (λ stop. IsNoUsage stop) }
+    {
         let mut out = [0; DATAGRAM];
         let mut client = Peer::connect(alloc, 0, 1, 0, 0)?;
         let Some(length) = client.next_out(0, &mut out) else {
@@ -66,24 +71,27 @@ impl Line {
             return Err(Stop::Untold);
         };
         let mut host = Peer::accept(alloc, 0, connect, 0)?;
-        pass(&mut host, &mut client)?;
-        pass(&mut client, &mut host)?;
+        pass(&mut host, &mut client, &mut out)?;
+        pass(&mut client, &mut host, &mut out)?;
         Ok(Line {
             client,
             host,
             told: 0,
             last: None,
+            out,
         })
     }
 
     // Gives so many messages that begin with the turn's number, and has them told and acknowledged.
-    fn carry(&mut self, turn: u32, batch: u32) -> Result<(), Stop> {
+    fn carry(&mut self, turn: u32, batch: u32) -> Result<(), Stop>
+        ensures { IfErr result (λ stop. IsNoUsage stop) }
+    {
         let mut message = [0; LEN];
         message[..4].copy_from_slice(&turn.to_le_bytes());
         for _ in 0..batch {
             self.client.send(CHANNEL, &message)?;
         }
-        pass(&mut self.client, &mut self.host)?;
+        pass(&mut self.client, &mut self.host, &mut self.out)?;
         for _ in 0..=batch {
             let Some(event) = self.host.next_event() else {
                 break;
@@ -93,15 +101,16 @@ impl Line {
                 self.last = Some(bytes);
             }
         }
-        pass(&mut self.host, &mut self.client)
+        pass(&mut self.host, &mut self.client, &mut self.out)
     }
 }
 
 // Hands all that one side writes to the other.
-fn pass(from: &mut Peer, to: &mut Peer) -> Result<(), Stop> {
-    let mut out = [0; DATAGRAM];
+fn pass(from: &mut Peer, to: &mut Peer, out: &mut [u8; DATAGRAM]) -> Result<(), Stop>
+    ensures { IfErr result (λ stop. IsNoUsage stop) }
+{
     for _ in 0..MOST_DATAGRAMS {
-        let Some(length) = from.next_out(0, &mut out) else {
+        let Some(length) = from.next_out(0, out) else {
             break;
         };
         to.take(&out[..length], 0)?;

@@ -1,8 +1,10 @@
 // What a run of a workload answers.
 ghost use Rattle.std.specs.Prelude.{◌≡◌};
+ghost use Rattle.gsbench.specs.Report.{stop_status};
 
 use gs_enet::{SendError, TakeError};
 use std::alloc::AllocError;
+use std::fmt;
 
 /// What the last turn left, and how many bytes of data all turns went through.
 #[derive(Clone, Copy, Debug, PartialEq, Eq)]
@@ -20,23 +22,75 @@ pub enum Stop {
     OutOfMemory,
 }
 
-impl From<AllocError> for Stop {
-    fn from(_: AllocError) -> Stop
-        ensures { result ≡ Stop.OutOfMemory }
+/// The line that is printed, without a newline.
+impl fmt::Display for Report {
+    ghost use Rattle.std.specs.Prelude.{Some};
+    ghost use Rattle.gsbench.specs.Report.{report_line};
+
+    ghost output = { λ report. Some (report_line report) };
+
+    fn fmt<W: fmt::Write>(&self, f: &mut fmt::Formatter<W>) -> fmt::Result {
+        write!(f, "checksum {:08x} bytes {}", self.checksum, self.bytes)
+    }
+}
+
+/// The line that is printed, without a newline.
+impl fmt::Display for Stop {
+    ghost use Rattle.std.specs.Prelude.{Some};
+    ghost use Rattle.gsbench.specs.Report.{stop_line};
+
+    ghost output = { λ stop. Some (stop_line stop) };
+
+    fn fmt<W: fmt::Write>(&self, f: &mut fmt::Formatter<W>) -> fmt::Result {
+        match self {
+            Stop::Usage { word } => write!(f, "usage: word {word}"),
+            Stop::Untold => write!(f, "untold"),
+            Stop::OutOfMemory => write!(f, "out of memory"),
+        }
+    }
+}
+
+impl Stop {
+    /// The exit status.
+    pub fn status(self) -> u8
+        ensures { result ≡ stop_status self }
     {
+        match self {
+            Stop::Usage { .. } => 2,
+            Stop::Untold => 1,
+            Stop::OutOfMemory => 12,
+        }
+    }
+}
+
+impl From<AllocError> for Stop {
+    ghost use Rattle.std.specs.Prelude.{◌≡◌};
+    ghost use Rattle.gsbench.specs.declared.report.Stop.TheVariants as stops;
+
+    ghost from_gives = { λ _ stop. stop ≡ stops.OutOfMemory };
+
+    fn from(_: AllocError) -> Stop {
         Stop::OutOfMemory
     }
 }
 
 impl From<gs_bytes::OutOfMemory> for Stop {
-    fn from(_: gs_bytes::OutOfMemory) -> Stop
-        ensures { result ≡ Stop.OutOfMemory }
-    {
+    ghost use Rattle.std.specs.Prelude.{◌≡◌};
+    ghost use Rattle.gsbench.specs.declared.report.Stop.TheVariants as stops;
+
+    ghost from_gives = { λ _ stop. stop ≡ stops.OutOfMemory };
+
+    fn from(_: gs_bytes::OutOfMemory) -> Stop {
         Stop::OutOfMemory
     }
 }
 
 impl From<SendError> for Stop {
+    ghost use Rattle.std.specs.Prelude.{◌≡◌};
+    ghost use Rattle.gsbench.specs.Report.{send_stop};
+
+    ghost from_gives = { λ error stop. stop ≡ send_stop error };
+
     fn from(error: SendError) -> Stop {
         match error {
             SendError::NotOpen | SendError::WindowFull => Stop::Untold,
@@ -46,6 +100,11 @@ impl From<SendError> for Stop {
 }
 
 impl From<TakeError> for Stop {
+    ghost use Rattle.std.specs.Prelude.{◌≡◌};
+    ghost use Rattle.gsbench.specs.Report.{take_stop};
+
+    ghost from_gives = { λ error stop. stop ≡ take_stop error };
+
     fn from(error: TakeError) -> Stop {
         match error {
             TakeError::BadDatagram(_) => Stop::Untold,

@@ -1,8 +1,9 @@
 // The row operation of the field.
-ghost use Rattle.std.specs.Prelude.{◌≡◌, ◌≢◌, ◌<◌, ◌≤◌, length, IfOk, IsErr};
+ghost use Rattle.std.specs.Prelude.{◌≡◌, ◌<◌, length, IfOk};
+ghost use Rattle.gsbench.specs.Workloads.{IsJudged, mul_add_limits};
 
-use crate::bytes::{SEED, checksum, made};
 use crate::report::{Report, Stop};
+use crate::sample::{SEED, checksum, made};
 use crate::words::{expect_end, number_at};
 use gs_gf256::mul_add;
 use std::alloc::Global;
@@ -11,7 +12,7 @@ const MAX_LEN: u32 = 1 << 20;
 
 /// `mul_add LEN COUNT`.
 pub fn run(alloc: Global, words: &[String]) -> Result<Report, Stop>
-    ensures words { length words.now ≢ 3 → IsErr result }
+    ensures usage { IsJudged mul_add_limits words.now result }
     ensures bytes { IfOk result (λ report. 0 < report.bytes) }
 {
     let len = number_at(words, 1, 1, MAX_LEN)?;

@@ -1,5 +1,6 @@
 // Bytes to work on, and the checksum of bytes.
 ghost use Rattle.std.specs.Prelude.{◌≡◌, IfOk, length};
+ghost use Rattle.gsbench.specs.Checksum.{fnv_1a};
 
 use std::alloc::{AllocError, Global};
 
@@ -21,7 +22,7 @@ pub fn made(alloc: Global, len: usize, seed: u32) -> Result<Vec<u8>, AllocError>
 
 /// A checksum of bytes and of their order (32-bit FNV-1a).
 pub fn checksum(bytes: &[u8]) -> u32
-    ensures { length bytes.now ≡ length bytes.now }
+    ensures { result ≡ fnv_1a bytes.now }
 {
     let mut sum = 0x811C_9DC5_u32;
     for byte in bytes {

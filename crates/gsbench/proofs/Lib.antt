@@ -1,0 +1,3 @@
+mod Examples
+pub mod Splits
+pub mod Texts

@@ -1,0 +1,9 @@
+use Rattle.std.proofs.Common.{Option, ap, subst, ◌∙◌}
+use Rattle.gsbench.specs.declared.workload.Workload.{Workload}
+use Rattle.gsbench.specs.Workloads.{IsJudgedBy, misfit_at, workload_named}
+use Rattle.gsbench.proofs.bench.bench.Goals as goal
+
+pub returns-clause-usage : goal.returns-clause-usage
+returns-clause-usage c =
+    let At : Option Workload → Type 0 = λ o. IsJudgedBy (misfit_at c.args.words.now o) c.run_named.result in
+    subst At (c.workload_named.ensures ∙ ap workload_named c.first_word.ensures) c.run_named.ensures.usage

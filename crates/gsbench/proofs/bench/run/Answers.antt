@@ -1,0 +1,40 @@
+use Rattle.std.specs.Prelude.{List, String, Result}
+use Rattle.std.proofs.Common.{sym, subst}
+use Rattle.std.specs.declared.alloc.Global.{Global}
+use Rattle.gsbench.specs.declared.report.Report.{Report}
+use Rattle.gsbench.specs.declared.report.Stop.{Stop}
+use Rattle.gsbench.specs.declared.workload.Workload.{Workload}
+use Rattle.gsbench.specs.Workloads.{IsJudged, limits_of}
+use Rattle.gsbench.proofs.bench.run.Goals as goal
+
+-- the answer is judged by the words of a workload
+abbrev IsJudgedAs : List (String Global) → Result Report Stop → Workload → Type 0
+IsJudgedAs words result workload = IsJudged (limits_of words workload) words result
+
+pub returns-in-MulAdd-clause-usage : goal.returns-in-MulAdd-clause-usage
+returns-in-MulAdd-clause-usage c =
+    subst (IsJudgedAs c.args.words.now c.run.result) (sym c.in-MulAdd.is) c.run.ensures.usage
+
+pub returns-in-Encode-clause-usage : goal.returns-in-Encode-clause-usage
+returns-in-Encode-clause-usage c =
+    subst (IsJudgedAs c.args.words.now c.run_encode.result) (sym c.in-Encode.is) c.run_encode.ensures.usage
+
+pub returns-in-Parity-clause-usage : goal.returns-in-Parity-clause-usage
+returns-in-Parity-clause-usage c =
+    subst (IsJudgedAs c.args.words.now c.run_parity.result) (sym c.in-Parity.is) c.run_parity.ensures.usage
+
+pub returns-in-Restore-clause-usage : goal.returns-in-Restore-clause-usage
+returns-in-Restore-clause-usage c =
+    subst (IsJudgedAs c.args.words.now c.run_restore.result) (sym c.in-Restore.is) c.run_restore.ensures.usage
+
+pub returns-in-Messages-clause-usage : goal.returns-in-Messages-clause-usage
+returns-in-Messages-clause-usage c =
+    subst (IsJudgedAs c.args.words.now c.run-in-Messages.result) (sym c.in-Messages.is) c.run-in-Messages.ensures.usage
+
+pub returns-in-Receive-clause-usage : goal.returns-in-Receive-clause-usage
+returns-in-Receive-clause-usage c =
+    subst (IsJudgedAs c.args.words.now c.run-in-Receive.result) (sym c.in-Receive.is) c.run-in-Receive.ensures.usage
+
+pub returns-in-Split-clause-usage : goal.returns-in-Split-clause-usage
+returns-in-Split-clause-usage c =
+    subst (IsJudgedAs c.args.words.now c.run_split.result) (sym c.in-Split.is) c.run_split.ensures.usage

@@ -1,0 +1,10 @@
+use Rattle.std.specs.Prelude.{Option}
+use Rattle.std.proofs.Common.{sym, subst}
+use Rattle.gsbench.specs.declared.workload.Workload.{Workload}
+use Rattle.gsbench.specs.Workloads.{IsJudgedBy, misfit_at}
+use Rattle.gsbench.proofs.bench.run_named.Goals as goal
+
+pub returns-in-Some-clause-usage : goal.returns-in-Some-clause-usage
+returns-in-Some-clause-usage c =
+    let At : Option Workload → Type 0 = λ o. IsJudgedBy (misfit_at c.args.words.now o) c.run.result in
+    subst At (sym c.in-Some.is) c.run.ensures.usage

@@ -1,0 +1,16 @@
+use Rattle.std.proofs.Common.{◌≡◌, ◌∷◌, [], ◌++◌, map, take, ◌∙◌, refl, rules}
+use Rattle.std.specs.Vec.{vec_items}
+use Rattle.std.proofs.lemmas.List.{map-append}
+use Rattle.gsbench.proofs.Splits.{first_next}
+use Rattle.gsbench.proofs.receive.datagrams_of.Goals as goal
+
+pub datagrams-preserved : goal.datagrams-preserved
+datagrams-preserved c =
+    let sent : c.in_ok-datagram.datagram.items ≡ take c.datagram-length.result c.datagram-length.new.out = search rules in
+    let pushed : c.push.new.self.items ≡ c.datagrams.all.items ++ c.in_ok-datagram.datagram ∷ [] = search rules in
+    let more : map vec_items c.push.new.self.items ≡ map vec_items c.datagrams.all.items ++ take c.datagram-length.result c.datagram-length.new.out ∷ [] =
+    rw (pushed, map-append) (rw sent refl) in
+    record {
+      stays = c.datagram-length.ensures.kept ∙ c.datagrams.invariant.stays;
+      first = first_next _ _ _ _ _ _ _ _ c.datagram-length.ensures.kept more c.datagram-length.ensures.datagram c.datagrams.invariant.first;
+    }

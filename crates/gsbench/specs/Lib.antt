@@ -1,0 +1,4 @@
+pub mod Checksum
+pub mod Report
+pub mod Words
+pub mod Workloads
