@@ -1,0 +1,6 @@
+pub mod Ups
+pub mod Writings
+pub mod Storing
+pub mod Naming
+pub mod Tellings
+pub mod Standings

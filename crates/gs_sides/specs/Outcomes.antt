@@ -1,0 +1,47 @@
+-- What a call of a side did, over a side that the value stood for.
+use Rattle.std.specs.Prelude.{◌≡◌, ◌≢◌, ℕ, ◌-◌, ◌++◌, Bool, true, false, List, [], Result, Ok, Err, slice_get}
+use Rattle.gs_enet.specs.declared.event.PeerEvent.{PeerEvent}
+use Rattle.gs_enet.specs.declared.send_error.SendError.{SendError}
+use Rattle.gs_enet.specs.declared.send_error.SendError.TheVariants.{NotOpen, WindowFull, OutOfMemory}
+use Rattle.gs_enet.specs.Record.{PeerRecord, at_moment}
+use Rattle.gs_enet.specs.Steps.{is_open, is_full, can_send, next_number}
+use Rattle.gs_enet.specs.Write.{going_out, next_items}
+use Rattle.gs_enet.specs.World.{Side, Send, Write, acted, came}
+use Rattle.gs_store.specs.Named.{is_nameable}
+use Rattle.gs_sides.specs.declared.side.ControlSide.{ControlSide}
+use Rattle.gs_sides.specs.Standing.{StandsFor}
+
+-- ---- events
+
+-- every event that waits is told
+abbrev pub all_told : PeerRecord → PeerRecord
+all_told peer = record peer { told = peer.told ++ peer.waiting; waiting = [] }
+
+-- the side behind it, and the events that it told
+pub record TellsAll (x : Side) (events : List PeerEvent) (new : ControlSide) : Type 0 where
+  pub events_are : events ≡ x.peer.waiting
+  pub stands : StandsFor new (record x { peer = all_told x.peer })
+
+-- ---- messages
+
+-- a message is given, or why it isn't
+abbrev pub Sends : Side → ℕ → List ℕ → Result ℕ SendError → ControlSide → Type 0
+Sends x channel bytes (Ok number) new = (can_send x.peer channel ≡ true) × (number ≡ next_number x.peer channel)
+    × StandsFor new (acted (Send channel bytes) x)
+Sends x channel bytes (Err NotOpen) new = (is_open x.peer.state ≡ false) × StandsFor new x
+Sends x channel bytes (Err WindowFull) new = (is_open x.peer.state ≡ true) × (is_full x.peer channel ≡ true)
+    × StandsFor new x
+Sends x channel bytes (Err OutOfMemory) new = (can_send x.peer channel ≡ true) × StandsFor new x
+
+-- ---- datagrams
+
+-- the datagram of that number of those that the other side wrote comes, where it can be named
+abbrev pub Takes : Side → Side → ℕ → ℕ → Bool → List PeerEvent → ControlSide → Type 0
+Takes x other number now true events new = (is_nameable other.wrote number ≡ true)
+    × TellsAll (came (slice_get other.wrote (number - 1)) now x) events new
+Takes x other number now false events new = (is_nameable other.wrote number ≡ false) × StandsFor new x
+
+-- the next datagram is written, if anything is to be written
+abbrev pub WritesNext : Side → ℕ → Bool → ControlSide → Type 0
+WritesNext x now true new = (next_items (at_moment now x.peer) ≢ []) × StandsFor new (acted (Write now) x)
+WritesNext x now false new = (going_out (at_moment now x.peer) ≡ []) × StandsFor new (acted (Write now) x)
