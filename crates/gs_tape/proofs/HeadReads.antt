@@ -5,7 +5,7 @@ use Rattle.std.specs.Result.{IsErrAnd}
 use Rattle.std.proofs.lemmas.Result.{err_from_is_err_and}
 use Rattle.gs_reader.specs.Buffered.{to_come}
 use Rattle.gs_tape.specs.Limits.{most_audio}
-use Rattle.gs_tape.specs.Reading.{Fault, Malformed, AudioLength, ◌>>=◌, unless, number_at, text_at, Before, Head, head_at, Read, ends_with, ticks_at, before_first, read_behind, read, audio_of_head, duration_of_head, audio_length, audio_duration}
+use Rattle.gs_tape.specs.Reading.{Fault, Malformed, AudioLength, ◌>>=◌, unless, number_at, text_at, Before, Head, head_at, Read, ticks_at, before_first, read_behind, read, audio_of_head, duration_of_head, audio_length, audio_duration}
 use Rattle.gs_tape.specs.declared.error.TapeError.{TapeError}
 use Rattle.gs_tape.specs.declared.stage.Stage.TheVariants.{Open}
 use Rattle.gs_tape.specs.declared.stage.Stage.{Stage}
@@ -43,12 +43,10 @@ head_same size bytes =
     ∙ bind_each (number_at size 1 timed) _ _ (λ last.
     finished (not (last.0 == 0)) (Malformed 1 (size - length timed)) (record { audio = audio.0; duration = ms.0 }) last.1))))))
 
-fault_read : (bytes : List ℕ) (fault : Fault) → head (length bytes) bytes ≡ Err fault → read bytes ≡ ends_with (Some fault)
-unfolding read
-fault_read bytes fault is =
+fault_in_head : (bytes : List ℕ) (fault : Fault) → head (length bytes) bytes ≡ Err fault → head_at (length bytes) bytes ≡ Err fault
+fault_in_head bytes fault is =
     let size = length bytes in
-    let found : head_at size bytes ≡ Err fault = sym (head_same size bytes) ∙ bind_of (head size bytes) (Err fault) made is in
-    ap (read_behind size) found
+    sym (head_same size bytes) ∙ bind_of (head size bytes) (Err fault) made is
 
 head_read : (bytes left : List ℕ) (place audio duration : ℕ) → length bytes ≡ place + length left
     → head (length bytes) bytes ≡ Ok ((audio, duration), left)
@@ -92,12 +90,12 @@ opens_err held None now place e none start failed = tt
 opens_err held (Some bytes) now place e none start failed = by_fault (fault_of e) failed.known
   where
     by_fault : (o : Option Fault) → IfSome o (λ fault. head (place + length (held ++ bytes)) (held ++ bytes) ≡ Err fault)
-        → IfSome o (λ fault. read bytes ≡ ends_with (Some fault))
+        → IfSome o (λ fault. head_at (length bytes) bytes ≡ Err fault)
     by_fault None known = tt
     by_fault (Some fault) known =
         let all : held ++ bytes ≡ bytes = ap (λ (l : List ℕ). l ++ bytes) none in
         let same : place + length (held ++ bytes) ≡ length bytes = omega (arith, ap (λ (l : List ℕ). length l) all, start) in
-        fault_read bytes fault (sym (ap (λ (s : ℕ). head s (held ++ bytes)) same ∙ ap (head (length bytes)) all) ∙ known)
+        fault_in_head bytes fault (sym (ap (λ (s : ℕ). head s (held ++ bytes)) same ∙ ap (head (length bytes)) all) ∙ known)
 
 pub opens_handed : (held : List ℕ) (left now : Option (List ℕ)) (place : ℕ) (r : Result Opened TapeError) (e : TapeError) → held ≡ [] → place ≡ 0
     → IsErrAnd r (λ y. y ≡ e) → Fails head (to_come held left) place e → Opens left now r

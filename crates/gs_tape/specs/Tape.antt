@@ -2,7 +2,7 @@
 use Rattle.std.specs.Prelude.{◌≡◌, ◌+◌, ℕ, List, length, Option, Some, None, Result, Ok, Err, IfSome, ⊤}
 use Rattle.gs_reader.specs.Buffered.{to_come}
 use Rattle.gs_tape.specs.Tick.{Tick, unit_bytes}
-use Rattle.gs_tape.specs.Reading.{Before, Fault, Read, and_then, audio_duration, audio_length, ends_with, read, ticks_at}
+use Rattle.gs_tape.specs.Reading.{Before, Fault, Read, and_then, audio_duration, audio_length, ends_with, head_at, read, ticks_at}
 use Rattle.gs_tape.specs.declared.error.TapeError.{TapeError}
 use Rattle.gs_tape.specs.declared.stage.Stage.{Stage}
 use Rattle.gs_tape.specs.declared.stage.Stage.TheVariants.{Open, Ended, Failed}
@@ -64,7 +64,8 @@ pub record OpensAs (bytes : List ℕ) (tape : Opened) (left : Option (List ℕ))
   pub audio_is : tape.audio ≡ audio_length bytes
   pub duration_is : tape.duration ≡ audio_duration bytes
 
+-- a file that can't be opened has its fault in its head
 abbrev pub Opens : Option (List ℕ) → Option (List ℕ) → Result Opened TapeError → Type 0
 Opens None left r = ⊤
 Opens (Some bytes) left (Ok tape) = OpensAs bytes tape left
-Opens (Some bytes) left (Err e) = IfSome (fault_of e) (λ fault. read bytes ≡ ends_with (Some fault))
+Opens (Some bytes) left (Err e) = IfSome (fault_of e) (λ fault. head_at (length bytes) bytes ≡ Err fault)

@@ -5,32 +5,39 @@ use std::test::Fail;
 
 /// A file of two ticks: audio units of two bytes, one in each tick; IDR units of a byte; the second tick
 /// has a delta of two bytes against the first.
-const SMALL: &[u8; 51] = b"GSTAPE01\x02\x00\x05\x00\
+fn small() -> &'static [u8] {
+    b"GSTAPE01\x02\x00\x05\x00\
 T\x03\x00\x00\x00\x01\x00\x01\x00\x00\x00Aab\
 T\x05\x00\x00\x00\x01\x01\x01\x00\x00\x00B\x01\x00\x00\x00\x02\x00\x00\x00DEcd\
-E";
+E"
+}
 
 /// A file of one tick without audio, whose IDR unit has three bytes.
-const ONE_TICK: &[u8; 27] =
-    b"GSTAPE01\x00\x00\x05\x00T\x00\x00\x00\x00\x00\x00\x03\x00\x00\x00ABCE";
+fn one_tick() -> &'static [u8] {
+    b"GSTAPE01\x00\x00\x05\x00T\x00\x00\x00\x00\x00\x00\x03\x00\x00\x00ABCE"
+}
 
-/// What is answered where one byte of `SMALL` is another: a text for each value, with the kind for each place (0 no
+/// What is answered where one byte of `small` is another: a text for each value, with the kind for each place (0 no
 /// fault, L a unit too large, A the audio length) and behind it the place or the tick.
-const ZERO: &str =
+fn zero() -> &'static str {
     "10 11 12 13 14 15 16 17 417 00 110 00 212 00 00 00 00 224 00 225 00 00 00 00 00 00 226 327 00 00 00 \
-248 240 537 00 00 00 00 538 00 00 00 248 00 00 00 00 00 00 00 250";
+248 240 537 00 00 00 00 538 00 00 00 248 00 00 00 00 00 00 00 250"
+}
 
-const ONE: &str =
+fn one() -> &'static str {
     "10 11 12 13 14 15 16 17 225 651 110 111 212 00 327 327 327 00 524 00 651 651 L1 00 00 00 226 327 00 \
-00 00 00 00 00 651 651 L2 00 00 538 538 538 249 651 651 L2 00 00 00 00 250";
+00 00 00 00 00 651 651 L2 00 00 538 538 538 249 651 651 L2 00 00 00 00 250"
+}
 
-const END: &str =
+fn end() -> &'static str {
     "10 11 12 13 14 00 16 17 651 A0 110 111 713 327 327 327 327 417 418 651 651 L1 L1 00 00 00 727 00 00 \
-00 00 431 432 651 651 L2 L2 00 538 538 538 538 651 651 L2 L2 00 00 00 00 00";
+00 00 431 432 651 651 L2 L2 00 538 538 538 538 651 651 L2 L2 00 00 00 00 00"
+}
 
-const MOST: &str =
+fn most() -> &'static str {
     "10 11 12 13 14 15 16 17 651 A0 110 111 212 327 327 327 327 417 418 651 651 L1 L1 00 00 00 226 00 00 \
-00 00 431 432 651 651 L2 L2 00 538 538 538 538 651 651 L2 L2 00 00 00 00 250";
+00 00 431 432 651 651 L2 L2 00 538 538 538 538 651 651 L2 L2 00 00 00 00 250"
+}
 
 // What a file of few ticks is answered in the end.
 fn answer_of(alloc: Global, bytes: &[u8]) -> Result<Option<TapeError>, Fail> {
@@ -83,8 +90,8 @@ fn push_word(words: &mut String, answer: Option<TapeError>) -> Result<(), Fail> 
 // The answers where each byte in turn has this value.
 fn changed(alloc: Global, value: u8) -> Result<String, Fail> {
     let mut words = String::new(alloc);
-    for place in 0..SMALL.len() {
-        let mut bytes = Vec::from_slice(alloc, SMALL)?;
+    for place in 0..small().len() {
+        let mut bytes = Vec::from_slice(alloc, small())?;
         if let Some(byte) = bytes.get_mut(place) {
             *byte = value;
         }
@@ -96,23 +103,23 @@ fn changed(alloc: Global, value: u8) -> Result<String, Fail> {
 
 #[test]
 fn a_changed_byte_has_its_fault(rt: HostRuntime) -> Result<(), Fail> {
-    assert!(rt; changed(rt.alloc(), 0x00)?.as_str() == ZERO);
-    assert!(rt; changed(rt.alloc(), 0x01)?.as_str() == ONE);
-    assert!(rt; changed(rt.alloc(), 0x45)?.as_str() == END);
-    assert!(rt; changed(rt.alloc(), 0xFF)?.as_str() == MOST);
+    assert!(rt; changed(rt.alloc(), 0x00)?.as_str() == zero());
+    assert!(rt; changed(rt.alloc(), 0x01)?.as_str() == one());
+    assert!(rt; changed(rt.alloc(), 0x45)?.as_str() == end());
+    assert!(rt; changed(rt.alloc(), 0xFF)?.as_str() == most());
     Ok(())
 }
 
 #[test]
 fn a_cut_file_ends_at_its_length(rt: HostRuntime) -> Result<(), Fail> {
-    assert!(rt; ends_where_it_is_cut(rt.alloc(), ONE_TICK)?);
-    assert!(rt; ends_where_it_is_cut(rt.alloc(), SMALL)?);
+    assert!(rt; ends_where_it_is_cut(rt.alloc(), one_tick())?);
+    assert!(rt; ends_where_it_is_cut(rt.alloc(), small())?);
     Ok(())
 }
 
 #[test]
 fn a_byte_behind_the_end_is_refused(rt: HostRuntime) -> Result<(), Fail> {
-    let mut bytes = Vec::from_slice(rt.alloc(), SMALL)?;
+    let mut bytes = Vec::from_slice(rt.alloc(), small())?;
     bytes.push(0x45)?;
     let expected = TapeError::BadTape { kind: 7, place: 51 };
     assert!(rt; answer_of(rt.alloc(), &bytes)? == Some(expected));
@@ -135,7 +142,7 @@ T\x00\x00\x00\x00\x00\x00\x05\x00\x00\x00DEF";
 
 #[test]
 fn ticks_are_read(rt: HostRuntime) -> Result<(), Fail> {
-    let mut source = SureSource::new(rt.alloc(), SMALL)?;
+    let mut source = SureSource::new(rt.alloc(), small())?;
     let mut tape = Tape::open(rt.alloc(), &mut source)?;
     assert!(rt; tape.audio() == 2);
     assert!(rt; tape.duration() == 5);
@@ -154,7 +161,7 @@ fn ticks_are_read(rt: HostRuntime) -> Result<(), Fail> {
 
 #[test]
 fn a_fault_of_the_source_is_told_again(rt: HostRuntime) -> Result<(), Fail> {
-    let mut source = MemSource::new(rt.alloc(), SMALL, &[1])?;
+    let mut source = MemSource::new(rt.alloc(), small(), &[1])?;
     assert!(rt; Tape::open(rt.alloc(), &mut source).err() == Some(TapeError::TapeFault));
     let mut source = MemSource::new(rt.alloc(), b"GSTAPE01\x02\x00\x05\x00", &[2])?;
     let mut tape = Tape::open(rt.alloc(), &mut source)?;
