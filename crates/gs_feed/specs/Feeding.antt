@@ -48,15 +48,11 @@ pub record OpensAs (bytes : List ℕ) (feed : Feeding) (left : Option (List ℕ)
   pub duration_is : feed.tape.duration ≡ audio_duration bytes
   pub stands : StandsFor feed left (ticks_of bytes) (first_fault bytes)
 
--- a file that is refused has no tick before that fault
-pub record FailsAs (bytes : List ℕ) (fault : Fault) : Type 0 where
-  pub no_ticks : length (ticks_of bytes) ≡ 0
-  pub fault_is : first_fault bytes ≡ Some fault
-
+-- a file that is refused has that fault in its head
 abbrev pub Opens : Option (List ℕ) → Option (List ℕ) → Result Feeding TapeError → Type 0
 Opens None left r = ⊤
 Opens (Some bytes) left (Ok feed) = OpensAs bytes feed left
-Opens (Some bytes) left (Err e) = IfSome (fault_of e) (FailsAs bytes)
+Opens (Some bytes) left (Err e) = IfSome (fault_of e) (λ fault. head_at (length bytes) bytes ≡ Err fault)
 
 -- A tick is captured exactly while the file has one that wasn't. Behind them comes the file's fault, or its end.
 abbrev pub Captures : ℕ → List Tick → Option Fault → Result Bool TapeError → Type 0
