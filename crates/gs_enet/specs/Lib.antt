@@ -3,6 +3,7 @@ pub mod Receive
 pub mod Steps
 pub mod Write
 pub mod World
+pub mod Sides
 pub mod Laws
 pub mod Apart
 pub mod Window

@@ -23,8 +23,9 @@ use Rattle.gs_store.specs.Standing.{StandsFor as IsStoreOf}
 use Rattle.gs_sides.specs.declared.side.ControlSide.{ControlSide}
 use Rattle.gs_sides.specs.Known.{datagram_by, bytes_by, IsReadAgain, HoldsAll, HasRecord, HasList}
 use Rattle.gs_sides.specs.Openness.{open_after_all}
-use Rattle.gs_sides.specs.Outcomes.{all_told, TellsAll, Sends, Takes, WritesNext}
-use Rattle.gs_sides.specs.Standing.{StandsFor, new_side}
+use Rattle.gs_sides.specs.Outcomes.{TellsAll, Sends, Takes, WritesNext}
+use Rattle.gs_enet.specs.Sides.{all_told, new_side}
+use Rattle.gs_sides.specs.Standing.{StandsFor}
 use Rattle.gs_sides.specs.Steps.{TellsEvents, WritesBytes, WritesSome, IsNew}
 use Rattle.gs_sides.proofs.Naming.{IsNamed}
 use Rattle.gs_sides.proofs.Storing.{stores}

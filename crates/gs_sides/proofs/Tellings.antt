@@ -10,7 +10,7 @@ use Rattle.gs_enet.specs.Steps.{first_event, telling, told_next}
 use Rattle.gs_enet.specs.Outcomes.{TellsNext}
 use Rattle.gs_sides.specs.Known.{HasRecord}
 use Rattle.gs_sides.specs.Openness.{open_after, open_after_all}
-use Rattle.gs_sides.specs.Outcomes.{all_told}
+use Rattle.gs_enet.specs.Sides.{all_told}
 use Rattle.gs_sides.specs.Steps.{TellsEvents}
 
 -- the record once these events are told, and those are left

@@ -16,7 +16,7 @@ use Rattle.gs_enet.specs.World.{Written, Side, Write, one_written, acted}
 use Rattle.gs_enet.proofs.Outgoing.{having_written-zero, going_out-less}
 use Rattle.gs_sides.specs.Known.{datagram_by, IsReadAgain, HasRecord, IsWritten}
 use Rattle.gs_sides.specs.Steps.{items_due, WritesBytes, WritesSome}
-use Rattle.gs_sides.specs.Written.{written_within, written_out}
+use Rattle.gs_enet.specs.Sides.{writing_within, written_out}
 
 -- how many items a side has to write, and how many it writes next
 abbrev left : Side → ℕ
@@ -77,26 +77,26 @@ settled_again now x none =
     nothing_acted now (settled now x) (ap next_items (moment_again now x.peer) ∙ none)
     ∙ ap (λ (r : PeerRecord). record x { peer = r }) (moment_again now x.peer)
 
-stays : (n now : ℕ) (x : Side) → next now x ≡ [] → written_within n now (settled now x) ≡ settled now x
+stays : (n now : ℕ) (x : Side) → next now x ≡ [] → writing_within n now (settled now x) ≡ settled now x
 stays zero now x none = refl
-stays (suc n) now x none = ap (written_within n now) (settled_again now x none) ∙ stays n now x none
+stays (suc n) now x none = ap (writing_within n now) (settled_again now x none) ∙ stays n now x none
 
 -- ---- more writings than there are items write all
 
 cons_not_nil : (i : Item) (is : List Item) → (i ∷ is) ≡ [] → ⊥
 cons_not_nil i is e = let l : length (i ∷ is) ≡ 0 = ap length e in omega (arith, l)
 
-enough : (f g now : ℕ) (x : Side) → left x < f → left x < g → written_within f now x ≡ written_within g now x
+enough : (f g now : ℕ) (x : Side) → left x < f → left x < g → writing_within f now x ≡ writing_within g now x
 enough zero g now x few few' = absurd (omega (arith, few))
 enough (suc f) zero now x few few' = absurd (omega (arith, few'))
 enough (suc f) (suc g) now x few few' = step (next now x) refl (enough f g now (acted (Write now) x)) where
   step : (items : List Item) → next now x ≡ items
       → (left (acted (Write now) x) < f → left (acted (Write now) x) < g
-      → written_within f now (acted (Write now) x) ≡ written_within g now (acted (Write now) x))
-      → written_within f now (acted (Write now) x) ≡ written_within g now (acted (Write now) x)
+      → writing_within f now (acted (Write now) x) ≡ writing_within g now (acted (Write now) x))
+      → writing_within f now (acted (Write now) x) ≡ writing_within g now (acted (Write now) x)
   step [] none go =
-      ap (written_within f now) (nothing_acted now x none) ∙ stays f now x none
-      ∙ sym (ap (written_within g now) (nothing_acted now x none) ∙ stays g now x none)
+      ap (writing_within f now) (nothing_acted now x none) ∙ stays f now x none
+      ∙ sym (ap (writing_within g now) (nothing_acted now x none) ∙ stays g now x none)
   step (i ∷ is) some go =
       let less = less_left now x.peer (λ none. cons_not_nil i is (sym some ∙ none)) in
       go (omega (arith, less, few)) (omega (arith, less, few'))
@@ -111,7 +111,7 @@ written_out-step now x some =
 
 pub written_out-last : (now : ℕ) (x : Side) → going_out (at_moment now x.peer) ≡ [] → acted (Write now) x ≡ written_out now x
 unfolding written_out
-written_out-last now x none = sym (ap (λ (xs : List Item). written_within (suc (length xs)) now x) none)
+written_out-last now x none = sym (ap (λ (xs : List Item). writing_within (suc (length xs)) now x) none)
 
 -- ---- the next datagram
 

@@ -1,6 +1,5 @@
 pub mod Known
 pub mod Openness
-pub mod Written
 pub mod Standing
 pub mod Outcomes
 pub mod Steps

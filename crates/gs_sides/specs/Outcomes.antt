@@ -7,15 +7,12 @@ use Rattle.gs_enet.specs.Record.{PeerRecord, at_moment}
 use Rattle.gs_enet.specs.Steps.{is_open, is_full, can_send, next_number}
 use Rattle.gs_enet.specs.Write.{going_out, next_items}
 use Rattle.gs_enet.specs.World.{Side, Send, Write, acted, came}
+use Rattle.gs_enet.specs.Sides.{all_told}
 use Rattle.gs_store.specs.Named.{is_nameable}
 use Rattle.gs_sides.specs.declared.side.ControlSide.{ControlSide}
 use Rattle.gs_sides.specs.Standing.{StandsFor}
 
 -- ---- events
-
--- every event that waits is told
-abbrev pub all_told : PeerRecord → PeerRecord
-all_told peer = record peer { told = peer.told ++ peer.waiting; waiting = [] }
 
 -- the side behind it, and the events that it told
 pub record TellsAll (x : Side) (events : List PeerEvent) (new : ControlSide) : Type 0 where

@@ -13,7 +13,3 @@ pub record StandsFor (s : ControlSide) (x : Side) : Type 0 where
   pub told : x.peer.waiting ≡ []
   pub up : s.up ≡ is_open x.peer.state
   pub given : (c : ℕ) → c < channels → slice_index s.given c ≡ given_count x.peer c
-
--- a side that wrote nothing
-abbrev pub new_side : PeerRecord → Side
-new_side peer = record { peer = peer; wrote = [] }

@@ -11,7 +11,7 @@ use Rattle.gs_enet.specs.Write.{due_if, going_out, next_datagram, wrote_next}
 use Rattle.gs_store.specs.declared.store.Store.{Store}
 use Rattle.gs_store.specs.Standing.{StandsFor as IsStoreOf}
 use Rattle.gs_sides.specs.Openness.{open_after_all}
-use Rattle.gs_sides.specs.Outcomes.{all_told}
+use Rattle.gs_enet.specs.Sides.{all_told}
 
 -- ---- writing
 

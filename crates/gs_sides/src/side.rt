@@ -67,7 +67,8 @@ fn offer(peer: &mut Peer, channel: u8, bytes: &[u8]) -> Result<u64, SendError>
 }
 
 impl ControlSide {
-    ghost use Rattle.gs_sides.specs.Standing.{StandsFor, new_side};
+    ghost use Rattle.gs_sides.specs.Standing.{StandsFor};
+    ghost use Rattle.gs_enet.specs.Sides.{new_side};
     ghost use Rattle.gs_sides.specs.Outcomes.{Sends};
     ghost use Rattle.gs_enet.specs.Steps.{is_open};
     ghost use Rattle.gs_sides.specs.Steps.{IsNew};

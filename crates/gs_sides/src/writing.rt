@@ -5,7 +5,7 @@ ghost use Rattle.gs_enet.specs.Record.{PeerRecord};
 ghost use Rattle.gs_enet.specs.Standing.{StandsFor as IsPeerOf};
 ghost use Rattle.gs_enet.specs.World.{Side};
 ghost use Rattle.gs_sides.specs.Known.{HasRecord, HasList, IsWritten};
-ghost use Rattle.gs_sides.specs.Written.{written_out};
+ghost use Rattle.gs_enet.specs.Sides.{written_out};
 ghost use Rattle.gs_sides.specs.Steps.{items_due, WritesSome, IsPutBehind};
 ghost use Rattle.gs_sides.specs.Standing.{StandsFor};
 ghost use Rattle.gs_sides.specs.Outcomes.{WritesNext};

@@ -2,7 +2,8 @@ use Rattle.std.proofs.Common.{ℕ, refl, subst}
 use Rattle.std.proofs.lemmas.Result.{IfOk-weaker}
 use Rattle.gs_enet.specs.Record.{PeerRecord, accepting}
 use Rattle.gs_enet.specs.Standing.{StandsFor as IsPeerOf}
-use Rattle.gs_sides.specs.Standing.{StandsFor, new_side}
+use Rattle.gs_sides.specs.Standing.{StandsFor}
+use Rattle.gs_enet.specs.Sides.{new_side}
 use Rattle.gs_sides.specs.Steps.{IsNew}
 use Rattle.gs_sides.proofs.side.ControlSide.accept.Goals as goal
 

@@ -2,7 +2,7 @@ use Rattle.std.proofs.Common.{◌≡◌}
 use Rattle.gs_enet.specs.World.{Side}
 use Rattle.gs_sides.specs.Standing.{StandsFor}
 use Rattle.gs_sides.specs.Steps.{items_due}
-use Rattle.gs_sides.specs.Written.{written_out}
+use Rattle.gs_enet.specs.Sides.{written_out}
 use Rattle.gs_sides.proofs.side.ControlSide.write_out.Given as goal
 
 abbrev pub invariant-datagrams : goal.invariant-datagrams
