@@ -27,9 +27,10 @@ use Rattle.gs_enet.specs.declared.event.PeerEvent.{PeerEvent}
 use Rattle.gs_enet.specs.declared.event.PeerEvent.TheVariants as event
 use Rattle.gs_enet.specs.Record.{messages_on}
 use Rattle.gs_enet.proofs.Lists.{Each}
-use Rattle.gs_run.specs.Session.{Owed, Lost, Idr}
+use Rattle.gs_client_core.specs.declared.asker.Owed.TheVariants.{Lost, Idr}
+use Rattle.gs_client_core.specs.declared.asker.Owed.{Owed}
 use Rattle.gs_run.specs.Message.{Act, Invalidate, AskIdr, Input, Nothing, act_of}
-use Rattle.gs_run.specs.Connection.{owed_message}
+use Rattle.gs_client_core.specs.Owed.{owed_message}
 use Rattle.gs_run.proofs.Acts.{IsOfUser, range_is_told, idr_is_told}
 use Rattle.gs_run.proofs.Heard.{act_ranges, ranges_in, ranges_told, ranges_in-append, IsFitting}
 

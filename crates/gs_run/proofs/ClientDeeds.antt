@@ -22,14 +22,17 @@ use Rattle.gs_enet.specs.World.{Send, Close, acted}
 use Rattle.gs_enet.proofs.Lists.{Each, each_push, each_append}
 use Rattle.gs_enet.proofs.Kept.{giving, given_on-own, given_on-apart}
 use Rattle.gs_enet.proofs.Acts.{act_both}
-use Rattle.gs_run.specs.Session.{Owed, Lost, Idr, Part, request_channel, made_on, video_of, audio_of}
+use Rattle.gs_run.specs.Session.{Part, made_on, video_of, audio_of}
+use Rattle.gs_client_core.specs.Owed.{request_channel, owed_message}
+use Rattle.gs_client_core.specs.declared.asker.Owed.TheVariants.{Lost, Idr}
+use Rattle.gs_client_core.specs.declared.asker.Owed.{Owed}
 use Rattle.gs_schedule.specs.declared.output.Output.TheVariants as output
 use Rattle.gs_run.specs.Report.{Acted, quietly, reporting}
 use Rattle.gs_run.specs.Message.{event_channel}
-use Rattle.gs_run.specs.Connection.{owed_message}
 use Rattle.gs_run.specs.Streaming.{with_video, with_video_if, video_taken, with_audio_if, audio_taken, reset}
 use Rattle.gs_run.specs.Giving.{given, event_given, idr_asked, closed}
-use Rattle.gs_run.specs.Refusal.{is_nameable, has_made_most, may_give, makes_ask, may_take_video, is_client_open}
+use Rattle.gs_run.specs.Refusal.{has_made_most, may_give, makes_ask, may_take_video, is_client_open}
+use Rattle.gs_store.specs.Named.{is_nameable}
 use Rattle.gs_run.specs.Scene.{Scene}
 use Rattle.gs_run.proofs.Acts.{input_is_of_user}
 use Rattle.gs_run.proofs.Uses.{kept_close, calm_kept}

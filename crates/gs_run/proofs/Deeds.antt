@@ -22,11 +22,14 @@ use Rattle.gs_enet.specs.World.{Time, acted, came}
 use Rattle.gs_enet.proofs.Lists.{Each, each_weaker, each_map}
 use Rattle.gs_enet.proofs.Kept.{messages_on-append}
 use Rattle.gs_enet.proofs.Acts.{act_both}
-use Rattle.gs_run.specs.Session.{Owed, Lost, Idr, Part}
+use Rattle.gs_run.specs.Session.{Part}
+use Rattle.gs_client_core.specs.declared.asker.Owed.TheVariants.{Lost, Idr}
+use Rattle.gs_client_core.specs.declared.asker.Owed.{Owed}
 use Rattle.gs_run.specs.Message.{act_of}
-use Rattle.gs_run.specs.Connection.{all_told, owed_message}
+use Rattle.gs_enet.specs.Sides.{all_told}
+use Rattle.gs_client_core.specs.Owed.{owed_message}
 use Rattle.gs_run.specs.Hearing.{all_heard, host_hears, up_taken, down_taken, timed, entered}
-use Rattle.gs_run.specs.Streaming.{newest_sent, turned, sent_entry}
+use Rattle.gs_run.specs.Streaming.{newest_sent, turned, turn_entry}
 use Rattle.gs_run.specs.Scene.{Scene}
 use Rattle.gs_run.proofs.Calm.{IsCalm}
 use Rattle.gs_run.proofs.TwoSides.{swapped, told_both, taken_both}
@@ -157,9 +160,9 @@ more_fitting n Idr is = tt
 
 sends : (ticks : List Tick) (part : Part) (captured : ℕ) (t : Tick) → IsKeptPart ticks part → last_tick part.history < captured
     → tick_numbered ticks captured ≡ Some t
-    → IsKeptPart ticks (record part { history = sent_entry captured (choice part.history t) ∷ part.history })
+    → IsKeptPart ticks (record part { history = turn_entry captured (choice part.history t) ∷ part.history })
 sends ticks part captured t k newer there =
-    let e : Entry = sent_entry captured (choice part.history t) in
+    let e : Entry = turn_entry captured (choice part.history t) in
     let before = video_stream part.settings.stream ticks part.history in
     let grown = streams_only_grow part.settings.stream ticks e part.history in
     let sounds = audio_stream part.settings.stream ticks part.history in
@@ -195,11 +198,11 @@ newest_keeps : (ticks : List Tick) (scene : Scene) (part : Part) (o : Option Tic
 newest_keeps ticks scene part None there k = k
 newest_keeps ticks scene part (Some t) there k = by (nat_lt (last_tick part.history) scene.captured && not (has_ended part.history)) refl where
   e : Entry
-  e = sent_entry scene.captured (choice part.history t)
+  e = turn_entry scene.captured (choice part.history t)
 
   by : (b : Bool) → (nat_lt (last_tick part.history) scene.captured && not (has_ended part.history)) ≡ b
       → IsKeptPart ticks (record part {
-        history = (cond b (entered scene.session (sent_entry scene.captured (choice part.history t)) part.history)
+        history = (cond b (entered scene.session (turn_entry scene.captured (choice part.history t)) part.history)
             (record { value = part.history; reports = [] })).value;
       })
   by true test =

@@ -22,7 +22,8 @@ use Rattle.gs_run.specs.CaptureFile.{CaptureFile}
 use Rattle.gs_run.specs.Session.{start}
 use Rattle.gs_run.specs.Deed.{Deed, Open, Capture, In, Turn, TakeVideo, TakeUp, Give, Reset}
 use Rattle.gs_run.specs.Message.{act_of}
-use Rattle.gs_run.specs.Connection.{written_out, settled}
+use Rattle.gs_run.specs.Connection.{settled}
+use Rattle.gs_enet.specs.Sides.{written_out}
 use Rattle.gs_run.specs.Hearing.{up_taken, down_taken}
 use Rattle.gs_run.specs.Opening.{opened_part, opened}
 use Rattle.gs_run.specs.Streaming.{turned, video_taken, reset}

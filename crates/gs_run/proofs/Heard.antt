@@ -1,6 +1,6 @@
 -- What a host enters of the messages that it is told, where each of them may be.
 use Rattle.std.proofs.Common.{◌≡◌, ◌<◌, ◌^◌, ℕ, Bool, true, false, cond, List, [], ◌∷◌, ◌++◌, pos, refl, sym, ap, subst, ◌∙◌, arith}
-use Rattle.std.specs.Prelude.{nat_abs, ◌==◌}
+use Rattle.std.specs.Prelude.{unsigned_abs, ◌==◌}
 use Rattle.std.proofs.lemmas.Bool.{cond-true, eqb-false, false≢true}
 use Rattle.std.proofs.lemmas.List.{append_assoc, append-nil}
 use Rattle.gs_tape.specs.Tick.{Tick}
@@ -17,16 +17,18 @@ use Rattle.gs_enet.specs.declared.event.PeerEvent.{PeerEvent}
 use Rattle.gs_enet.specs.declared.event.PeerEvent.TheVariants as event
 use Rattle.gs_enet.specs.Record.{messages_on}
 use Rattle.gs_enet.proofs.Lists.{Each}
-use Rattle.gs_run.specs.Session.{Owed, Lost, Idr}
+use Rattle.gs_client_core.specs.declared.asker.Owed.TheVariants.{Lost, Idr}
+use Rattle.gs_client_core.specs.declared.asker.Owed.{Owed}
 use Rattle.gs_run.specs.Message.{Act, Invalidate, AskIdr, Input, Nothing, act_of}
-use Rattle.gs_run.specs.Connection.{owed_message}
-use Rattle.gs_run.specs.Hearing.{is_sent_range, range_entry, entered, entered_unless_ended, acts_on, all_heard}
+use Rattle.gs_client_core.specs.Owed.{owed_message}
+use Rattle.gs_run.specs.Hearing.{entered, entered_unless_ended, acts_on, all_heard}
+use Rattle.gs_refs.specs.Answers.{is_range_sent, named_range}
 use Rattle.gs_run.proofs.Acts.{IsOfUser, range_is_told, idr_is_told}
 
 -- ---- the ranges among messages
 
 abbrev pub act_ranges : Act → List Range
-act_ranges (Invalidate first last) = record { first = nat_abs first; last = nat_abs last } ∷ []
+act_ranges (Invalidate first last) = record { first = unsigned_abs first; last = unsigned_abs last } ∷ []
 act_ranges AskIdr = []
 act_ranges (Input event) = []
 act_ranges Nothing = []
@@ -127,7 +129,7 @@ nothing_gained settings ticks h legal on = record {
   invalid = sym (append-nil (invalid_ranges h));
 }
 
-range_is_sent : (sent a b : ℕ) → IsRange sent a b → is_sent_range sent (pos a) (pos b) ≡ true
+range_is_sent : (sent a b : ℕ) → IsRange sent a b → is_range_sent sent (pos a) (pos b) ≡ true
 range_is_sent sent a b is = grind (arith, is.0, is.1, is.2)
 
 -- the value of an entry, where nothing ended
@@ -140,12 +142,12 @@ entered_value session e h on = by (has_ended h) on where
 -- a range that was sent is entered
 range_gains : (settings : StreamSettings) (ticks : List Tick) (session a b : ℕ) (h : List Entry) → IsLegal ticks h → has_ended h ≡ false
     → IsRange (frames h) a b
-    → Gains settings ticks h (entered_unless_ended session (range_entry (frames h) (pos a) (pos b)) h).value (record { first = a; last = b } ∷ [])
+    → Gains settings ticks h (entered_unless_ended session (named_range (frames h) (pos a) (pos b)) h).value (record { first = a; last = b } ∷ [])
 unfolding video_stream audio_stream audio_units
 range_gains settings ticks session a b h legal on is =
-    let e = range_entry (frames h) (pos a) (pos b) in
+    let e = named_range (frames h) (pos a) (pos b) in
     let kind : e ≡ entry.Invalid a b =
-    cond-true (is_sent_range (frames h) (pos a) (pos b)) (entry.Invalid a b) (entry.Ended (pos a) (pos b)) (range_is_sent (frames h) a b is) in
+    cond-true (is_range_sent (frames h) (pos a) (pos b)) (entry.Invalid a b) (entry.Ended (pos a) (pos b)) (range_is_sent (frames h) a b is) in
     subst (λ (new : List Entry). Gains settings ticks h new (record { first = a; last = b } ∷ []))
     (sym (entered_value session e h on ∙ ap (λ (x : Entry). x ∷ h) kind))
     (record { legal = (legal, on, is); goes_on = on; frames_same = refl; stream_same = refl; sound_same = refl; invalid = refl })

@@ -22,13 +22,16 @@ use Rattle.gs_enet.specs.Record.{PeerRecord, given_on, heard, messages_on}
 use Rattle.gs_enet.specs.Steps.{is_full, can_send}
 use Rattle.gs_enet.specs.World.{Side, Send, Time, acted, came}
 use Rattle.gs_schedule.specs.declared.output.Output.TheVariants as output
-use Rattle.gs_run.specs.Session.{Owed, Part, request_channel, video_of, audio_of}
+use Rattle.gs_run.specs.Session.{Part, video_of, audio_of}
+use Rattle.gs_client_core.specs.Owed.{request_channel, owed_message}
+use Rattle.gs_client_core.specs.declared.asker.Owed.{Owed}
 use Rattle.gs_run.specs.Report.{Report, Acted, quietly, reporting, ask_report, hand_report, play_report}
 use Rattle.gs_run.specs.Message.{event_channel}
 use Rattle.gs_run.specs.Scene.{Scene}
 use Rattle.gs_run.specs.Deed.{SessionDeed, Turn, TakeVideo, TakeAudio, TakeUp, TakeDown, Give, AskIdr, Close, Mark}
 use Rattle.gs_run.specs.Deed as deed
-use Rattle.gs_run.specs.Connection.{written_out, all_told, both_written_out, owed_message, with_owed, settled}
+use Rattle.gs_run.specs.Connection.{both_written_out, with_owed, settled}
+use Rattle.gs_enet.specs.Sides.{written_out, all_told}
 use Rattle.gs_run.specs.Hearing.{client_reports, entry_output, up_taken, down_taken, timed, all_heard}
 use Rattle.gs_run.specs.Opening.{new_part, opened_part}
 use Rattle.gs_run.specs.Streaming.{turned, with_video_if, video_taken, with_audio_if, audio_taken, reset}

@@ -1,6 +1,6 @@
 -- Each delivery of a pump leaves fewer deliveries in its session.
 use Rattle.std.proofs.Common.{◌≡◌, ◌≢◌, ◌<◌, ◌≤◌, ◌+◌, ◌-◌, ℕ, zero, suc, Bool, true, false, cond, List, [], ◌∷◌, length, map, drop, Option, Some, None, refl, sym, ap, subst, ◌∙◌, arith}
-use Rattle.std.specs.Prelude.{ℤ, ◌&&◌, nat_abs, nat_lt, slice_get, unwrap_or}
+use Rattle.std.specs.Prelude.{ℤ, ◌&&◌, unsigned_abs, nat_lt, slice_get, unwrap_or}
 use Rattle.std.specs.List.{find, range_with_len}
 use Rattle.std.specs.Option.{option_map}
 use Rattle.std.proofs.lemmas.Bool.{ltb-true}
@@ -19,12 +19,16 @@ use Rattle.gs_enet.specs.declared.event.PeerEvent.TheVariants as event
 use Rattle.gs_enet.specs.Record.{channels}
 use Rattle.gs_enet.specs.Steps.{can_send}
 use Rattle.gs_enet.specs.World.{Side, Written, Send, acted, came}
-use Rattle.gs_run.specs.Session.{Owed, Lost, Marks, Part, video_of, audio_of, request_channel}
+use Rattle.gs_run.specs.Session.{Marks, Part, video_of, audio_of}
+use Rattle.gs_client_core.specs.Owed.{request_channel, owed_message}
+use Rattle.gs_client_core.specs.declared.asker.Owed.TheVariants.{Lost}
+use Rattle.gs_client_core.specs.declared.asker.Owed.{Owed}
 use Rattle.gs_run.specs.Message.{Act, Invalidate, AskIdr, Input, Nothing, act_of}
 use Rattle.gs_run.specs.Scene.{Scene}
 use Rattle.gs_run.specs.Deed.{SessionDeed, TakeVideo, TakeAudio, TakeUp, TakeDown, Mark}
-use Rattle.gs_run.specs.Connection.{owed_message, with_owed, settled}
-use Rattle.gs_run.specs.Hearing.{entered, entered_unless_ended, range_entry, is_sent_range, acts_on, host_heard, all_heard, up_taken, down_taken}
+use Rattle.gs_run.specs.Connection.{with_owed, settled}
+use Rattle.gs_run.specs.Hearing.{entered, entered_unless_ended, acts_on, host_heard, all_heard, up_taken, down_taken}
+use Rattle.gs_refs.specs.Answers.{named_range, is_range_sent}
 use Rattle.gs_run.specs.Streaming.{with_video_if, video_taken, with_audio_if, audio_taken}
 use Rattle.gs_run.specs.Pump.{Pumping, ends_of, is_kept, next_kept, next_above, or_else, next_control}
 use Rattle.gs_run.specs.Deliveries.{deliveries_of, all_deliveries, deliveries_by, control_deliveries}
@@ -81,16 +85,16 @@ entered_same {X} f session e h same = by (has_ended h) where
   by true = refl
   by false = same
 
-range_same : {X : Type 0} (f : List Entry → X) → CountsSent f → (first last : ℤ) (h : List Entry) → f (range_entry (frames h) first last ∷ h) ≡ f h
-range_same {X} f counts first last h = by (is_sent_range (frames h) first last) where
-  by : (b : Bool) → f (cond b (entry.Invalid (nat_abs first) (nat_abs last)) (entry.Ended first last) ∷ h) ≡ f h
-  by true = counts.invalid (nat_abs first) (nat_abs last) h
+range_same : {X : Type 0} (f : List Entry → X) → CountsSent f → (first last : ℤ) (h : List Entry) → f (named_range (frames h) first last ∷ h) ≡ f h
+range_same {X} f counts first last h = by (is_range_sent (frames h) first last) where
+  by : (b : Bool) → f (cond b (entry.Invalid (unsigned_abs first) (unsigned_abs last)) (entry.Ended first last) ∷ h) ≡ f h
+  by true = counts.invalid (unsigned_abs first) (unsigned_abs last) h
   by false = counts.ended first last h
 
 acts_same : {X : Type 0} (f : List Entry → X) → CountsSent f → (session channel : ℕ) (act : Act) (h : List Entry)
     → f (acts_on session channel act h).value ≡ f h
 acts_same f counts session channel (Invalidate first last) h =
-    entered_same f session (range_entry (frames h) first last) h (range_same f counts first last h)
+    entered_same f session (named_range (frames h) first last) h (range_same f counts first last h)
 acts_same f counts session channel AskIdr h = entered_same f session entry.IdrAsked h (counts.asked h)
 acts_same f counts session channel (Input e) h = refl
 acts_same f counts session channel Nothing h = refl

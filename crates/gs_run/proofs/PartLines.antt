@@ -13,7 +13,10 @@ use Rattle.gs_enet.specs.Steps.{is_full, can_send}
 use Rattle.gs_enet.specs.World.{Send, Time, acted, came}
 use Rattle.gs_schedule.specs.declared.output.Output.{Output}
 use Rattle.gs_schedule.specs.declared.output.Output.TheVariants as output
-use Rattle.gs_run.specs.Session.{Owed, Idr, Part, request_channel, video_of, audio_of}
+use Rattle.gs_run.specs.Session.{Part, video_of, audio_of}
+use Rattle.gs_client_core.specs.Owed.{request_channel, owed_message}
+use Rattle.gs_client_core.specs.declared.asker.Owed.TheVariants.{Idr}
+use Rattle.gs_client_core.specs.declared.asker.Owed.{Owed}
 use Rattle.gs_run.specs.Report.{Report, plain, Acted, quietly, reporting}
 use Rattle.gs_control.specs.declared.message.Message.TheVariants as message
 use Rattle.gs_control.specs.Message.{bytes_of}
@@ -21,10 +24,10 @@ use Rattle.gs_run.specs.Message.{event_channel}
 use Rattle.gs_run.specs.Scene.{Scene}
 use Rattle.gs_run.specs.Deed.{SessionDeed, Turn, TakeVideo, TakeAudio, TakeUp, TakeDown, Give, AskIdr, Close, Mark}
 use Rattle.gs_run.specs.Deed as deed
-use Rattle.gs_run.specs.Connection.{both_written_out, owed_message, with_owed, settled}
+use Rattle.gs_run.specs.Connection.{both_written_out, with_owed, settled}
 use Rattle.gs_run.specs.Hearing.{client_reports, entry_output, entered, up_taken, down_taken, timed, all_heard}
 use Rattle.gs_run.specs.Opening.{new_part, opened_part}
-use Rattle.gs_run.specs.Streaming.{sent_entry, newest_sent, turned, with_video_if, video_taken, with_audio_if, audio_taken, reset}
+use Rattle.gs_run.specs.Streaming.{newest_sent, turned, with_video_if, video_taken, with_audio_if, audio_taken, reset, turn_entry}
 use Rattle.gs_run.specs.Giving.{given, closed}
 use Rattle.gs_run.specs.Pump.{marked}
 use Rattle.gs_run.specs.Done.{done_in, settled_in}
@@ -146,10 +149,10 @@ turn_lines kind is scene part =
     on : (o : Option Tick) → of_kind kind (newest_sent scene o part.history).reports ≡ []
     on None = refl
     on (Some t) = by (nat_lt (last_tick part.history) scene.captured && not (has_ended part.history)) where
-      by : (b : Bool) → of_kind kind (cond {A = Acted (List Entry)} b (entered scene.session (sent_entry scene.captured
+      by : (b : Bool) → of_kind kind (cond {A = Acted (List Entry)} b (entered scene.session (turn_entry scene.captured
           (choice part.history t)) part.history) (quietly part.history)).reports ≡ []
-      by true = one_passed kind (entry_output scene.session part.history (sent_entry scene.captured (choice part.history t)))
-          (is.entries scene.session part.history (sent_entry scene.captured (choice part.history t)))
+      by true = one_passed kind (entry_output scene.session part.history (turn_entry scene.captured (choice part.history t)))
+          (is.entries scene.session part.history (turn_entry scene.captured (choice part.history t)))
       by false = refl
 
 -- a message that is given or meets a full window

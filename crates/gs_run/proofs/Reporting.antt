@@ -15,7 +15,8 @@ use Rattle.gs_schedule.specs.declared.output.Output.{Output}
 use Rattle.gs_schedule.specs.declared.output.Output.TheVariants as output
 use Rattle.gs_run.specs.Report.{Report, plain, Acted, quietly}
 use Rattle.gs_run.specs.Message.{Act, Invalidate, AskIdr, Input, Nothing, act_of}
-use Rattle.gs_run.specs.Hearing.{entry_output, entered, entered_unless_ended, range_entry, acts_on, host_heard, all_heard, client_reports}
+use Rattle.gs_run.specs.Hearing.{entry_output, entered, entered_unless_ended, acts_on, host_heard, all_heard, client_reports}
+use Rattle.gs_refs.specs.Answers.{named_range}
 use Rattle.gs_run.specs.Totals.{ToldInput, input_in, input_of}
 
 -- those of a kind
@@ -53,7 +54,7 @@ entered_lines kind quiet n e h = by (has_ended h) where
 
 act_lines : (kind : Output → Bool) (pick : ℕ → ToldInput → List Report) → IsQuiet kind → Picks kind pick → (n c : ℕ) (a : Act) (h : List Entry)
     → of_kind kind (acts_on n c a h).reports ≡ flat_map (pick n) (input_in c a)
-act_lines kind pick quiet picks n c (Invalidate first last) h = entered_lines kind quiet n (range_entry (frames h) first last) h
+act_lines kind pick quiet picks n c (Invalidate first last) h = entered_lines kind quiet n (named_range (frames h) first last) h
 act_lines kind pick quiet picks n c AskIdr h = entered_lines kind quiet n entry.IdrAsked h
 act_lines kind pick quiet picks n c (Input e) h = picks n c e ∙ sym (append-nil (pick n (record { channel = c; event = e })))
 act_lines kind pick quiet picks n c Nothing h = refl

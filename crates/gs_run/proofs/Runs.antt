@@ -20,7 +20,8 @@ use Rattle.gs_enet.specs.Record.{messages_on, given_on}
 use Rattle.gs_enet.proofs.Lists.{Each}
 use Rattle.gs_enet.proofs.Kept.{messages_on-append}
 use Rattle.gs_run.specs.CaptureFile.{CaptureFile}
-use Rattle.gs_run.specs.Session.{Part, Session, State, start, session_numbered, replaced, request_channel}
+use Rattle.gs_run.specs.Session.{Part, Session, State, start, session_numbered, replaced}
+use Rattle.gs_client_core.specs.Owed.{request_channel}
 use Rattle.gs_run.specs.Scene.{Scene, scene_of}
 use Rattle.gs_run.specs.Deed.{SessionDeed, Turn, TakeVideo, TakeAudio, TakeUp, TakeDown, Give, AskIdr, Close, Reset, Mark, Deed, Open, Capture, Pass, In}
 use Rattle.gs_run.specs.Hearing.{timed}

@@ -13,7 +13,7 @@ use Rattle.gs_enet.specs.Steps.{comes_before, placed, next_number, with_message}
 use Rattle.gs_enet.specs.Write.{Item, Answers, Orders, item_command, order_command, wire_number, is_due, due_if, fitting, going_out, header_room, next_items, written_once, first_written, wrote_next}
 use Rattle.gs_enet.specs.World.{Side, Written, Write, sent_if, one_written, acted, came}
 use Rattle.gs_enet.proofs.Due.{due_after}
-use Rattle.gs_run.specs.Connection.{written_within, written_out}
+use Rattle.gs_enet.specs.Sides.{writing_within, written_out}
 use Rattle.gs_run.specs.Deliveries.{is_order, deliveries_of, all_deliveries, is_message_content, is_message, deliveries_by}
 
 -- ---- counts of members
@@ -315,7 +315,7 @@ wrote_leaves now n s =
     omega (arith, answers, due, messages, later, new)
 
 within_leaves : (m now n : ℕ) (s : Side)
-    → deliveries_by (written_within m now s).peer + all_deliveries (drop n (written_within m now s).wrote) ≤ deliveries_by s.peer + all_deliveries (drop n s.wrote)
+    → deliveries_by (writing_within m now s).peer + all_deliveries (drop n (writing_within m now s).wrote) ≤ deliveries_by s.peer + all_deliveries (drop n s.wrote)
 within_leaves zero now n s = omega arith
 within_leaves (suc m) now n s =
     let one = wrote_leaves now n s in

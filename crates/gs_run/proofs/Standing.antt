@@ -18,8 +18,11 @@ use Rattle.gs_enet.specs.World.{Side, Send, Write, acted, came, sent_if}
 use Rattle.gs_enet.proofs.Lists.{Each}
 use Rattle.gs_enet.proofs.Kept.{giving, given_on-own, given_on-apart}
 use Rattle.gs_enet.proofs.Acts.{act_both}
-use Rattle.gs_run.specs.Session.{Owed, Part, request_channel}
-use Rattle.gs_run.specs.Connection.{written_within, written_out, all_told, both_written_out, owed_message, with_owed, settled}
+use Rattle.gs_run.specs.Session.{Part}
+use Rattle.gs_client_core.specs.Owed.{request_channel, owed_message}
+use Rattle.gs_client_core.specs.declared.asker.Owed.{Owed}
+use Rattle.gs_run.specs.Connection.{both_written_out, with_owed, settled}
+use Rattle.gs_enet.specs.Sides.{writing_within, written_out, all_told}
 use Rattle.gs_run.specs.RunLaws.{AreOfSound}
 use Rattle.gs_run.proofs.Calm.{IsCalm, calm_same}
 use Rattle.gs_run.proofs.TwoSides.{AreBoth, swapped, out_both, told_both}
@@ -103,10 +106,10 @@ host_moves moved both calm same k = record {
 kept_trans : (r s t : PeerRecord) → KeepsAll r s → KeepsAll s t → KeepsAll r t
 kept_trans r s t a b = record { given = b.given ∙ a.given; told = b.told ∙ a.told; messages = λ c. b.messages c ∙ a.messages c }
 
-kept_within : (n now : ℕ) (s : Side) → KeepsAll s.peer (written_within n now s).peer
+kept_within : (n now : ℕ) (s : Side) → KeepsAll s.peer (writing_within n now s).peer
 kept_within zero now s = record { given = refl; told = refl; messages = λ c. refl }
 kept_within (suc n) now s =
-    kept_trans s.peer (acted (Write now) s).peer (written_within n now (acted (Write now) s)).peer
+    kept_trans s.peer (acted (Write now) s).peer (writing_within n now (acted (Write now) s)).peer
     (kept_write now s.peer) (kept_within n now (acted (Write now) s))
 
 pub kept_out : (now : ℕ) (s : Side) → KeepsAll s.peer (written_out now s).peer

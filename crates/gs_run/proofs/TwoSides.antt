@@ -14,7 +14,7 @@ use Rattle.gs_enet.proofs.Kept.{Kept, Says, IsTrueOrder, OrdersOut, messages_on-
 use Rattle.gs_enet.proofs.Acts.{Gives, Both, act_both}
 use Rattle.gs_enet.proofs.Receipt.{came_both}
 use Rattle.gs_enet.proofs.TwoSides.{whole_prefix, none_waits}
-use Rattle.gs_run.specs.Connection.{written_within, written_out, all_told}
+use Rattle.gs_enet.specs.Sides.{writing_within, written_out, all_told}
 use Rattle.gs_run.proofs.Calm.{IsCalm, IsLow, IsLowContent, calm_is_near}
 
 abbrev pub AreBoth : Side → Side → Type 0
@@ -25,7 +25,7 @@ swapped s o k = (k.1, k.0)
 
 -- ---- writing and telling
 
-within_both : (n now : ℕ) (s o : Side) → AreBoth s o → AreBoth (written_within n now s) o
+within_both : (n now : ℕ) (s o : Side) → AreBoth s o → AreBoth (writing_within n now s) o
 within_both zero now s o k = k
 within_both (suc n) now s o k = within_both n now (acted (Write now) s) o (act_both (Write now) s o k)
 

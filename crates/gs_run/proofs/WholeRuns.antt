@@ -23,10 +23,11 @@ use Rattle.gs_schedule.specs.Lines.{lines_of}
 use Rattle.gs_run.specs.CaptureFile.{CaptureFile, file_of}
 use Rattle.gs_audio.specs.Played.{played}
 use Rattle.gs_run.specs.Session.{start}
-use Rattle.gs_run.specs.Report.{Bytes}
+use Rattle.gs_command.specs.declared.command.Detail.TheVariants.{Bytes}
 use Rattle.gs_run.specs.Deed.{Deed, Open, Capture, In, Turn, TakeVideo, TakeUp, TakeDown, Give, Close, Mark}
 use Rattle.gs_run.specs.Message.{act_of}
-use Rattle.gs_run.specs.Connection.{written_out, settled}
+use Rattle.gs_run.specs.Connection.{settled}
+use Rattle.gs_enet.specs.Sides.{written_out}
 use Rattle.gs_run.specs.Hearing.{up_taken, down_taken}
 use Rattle.gs_run.specs.Opening.{opened_part, opened}
 use Rattle.gs_run.specs.Streaming.{turned, video_taken}

@@ -6,35 +6,16 @@ use Rattle.gs_enet.specs.Record.{PeerRecord, at_moment}
 use Rattle.gs_enet.specs.Steps.{can_send}
 use Rattle.gs_enet.specs.Write.{going_out}
 use Rattle.gs_enet.specs.World.{Side, Send, Write, acted}
-use Rattle.gs_run.specs.Session.{Owed, Lost, Idr, Part, request_channel}
-
--- ---- one side
-
--- so many datagrams are written, or as many as there are
-abbrev pub written_within : ℕ → ℕ → Side → Side
-written_within zero now side = side
-written_within (suc n) now side = written_within n now (acted (Write now) side)
-
--- The side writes out all that is due. Each datagram has an item at least, so the last of these finds nothing.
-unfoldable pub written_out : ℕ → Side → Side
-written_out now side = written_within (suc (length (going_out (at_moment now side.peer)))) now side
-
--- every event that waits is told
-abbrev pub all_told : PeerRecord → PeerRecord
-all_told peer = record peer { told = peer.told ++ peer.waiting; waiting = [] }
-
--- ---- both sides
+use Rattle.gs_enet.specs.Sides.{written_out}
+use Rattle.gs_client_core.specs.declared.asker.Owed.{Owed}
+use Rattle.gs_client_core.specs.Owed.{request_channel, owed_message}
+use Rattle.gs_run.specs.Session.{Part}
 
 abbrev pub both_written_out : ℕ → Part → Part
 both_written_out now part = record part {
   client = written_out now part.client;
   host = written_out now part.host;
 }
-
--- the message that asks for it
-abbrev pub owed_message : Owed → List ℕ
-owed_message (Lost range) = bytes_of (message.Invalidate (pos range.first) (pos range.last))
-owed_message Idr = bytes_of message.IdrRequest
 
 -- These are owed: in order, each is given to the client's connection as long as the window takes it.
 abbrev pub with_owed : List Owed → Part → Part

@@ -6,7 +6,8 @@ use Rattle.gs_control.specs.Message.{bytes_of}
 use Rattle.gs_enet.specs.Steps.{is_full}
 use Rattle.gs_enet.specs.World.{Send, Close, acted}
 use Rattle.gs_schedule.specs.declared.output.Output.TheVariants as output
-use Rattle.gs_run.specs.Session.{Part, request_channel}
+use Rattle.gs_run.specs.Session.{Part}
+use Rattle.gs_client_core.specs.Owed.{request_channel}
 use Rattle.gs_run.specs.Report.{Acted, quietly, reporting}
 use Rattle.gs_run.specs.Message.{event_channel}
 

@@ -1,9 +1,10 @@
 -- What the host and the client do with a control datagram, and with what their sides then have to tell.
-use Rattle.std.specs.Prelude.{ℕ, ℤ, ◌+◌, ◌-◌, ◌&&◌, Bool, List, [], ◌∷◌, pos, nat_abs, int_le, slice_get, if◌then◌else◌}
+use Rattle.std.specs.Prelude.{ℕ, ℤ, ◌+◌, ◌-◌, ◌&&◌, Bool, List, [], ◌∷◌, pos, unsigned_abs, int_le, slice_get, if◌then◌else◌}
 use Rattle.std.specs.List.{flat_map}
 use Rattle.gs_refs.specs.declared.entry.Entry.{Entry}
 use Rattle.gs_refs.specs.declared.entry.Entry.TheVariants as entry
 use Rattle.gs_refs.specs.History.{frames, has_ended}
+use Rattle.gs_refs.specs.Answers.{named_range}
 use Rattle.gs_enet.specs.declared.event.PeerEvent.{PeerEvent}
 use Rattle.gs_enet.specs.declared.event.PeerEvent.TheVariants as event
 use Rattle.gs_enet.specs.World.{Time, acted, came}
@@ -12,7 +13,7 @@ use Rattle.gs_schedule.specs.declared.output.Output.TheVariants as output
 use Rattle.gs_run.specs.Session.{Part}
 use Rattle.gs_run.specs.Report.{Report, plain, Acted, quietly, reporting, ◌>>=◌}
 use Rattle.gs_run.specs.Message.{Act, Invalidate, AskIdr, Input, Nothing, act_of}
-use Rattle.gs_run.specs.Connection.{all_told}
+use Rattle.gs_enet.specs.Sides.{all_told}
 
 -- ---- the host's history
 
@@ -30,22 +31,12 @@ entered session e h = reporting (entry_output session h e) (e ∷ h)
 abbrev pub entered_unless_ended : ℕ → Entry → List Entry → Acted (List Entry)
 entered_unless_ended session e h = if has_ended h then quietly h else entered session e h
 
--- a range of frames that were sent is invalid, and one that isn't ends the session
-abbrev pub is_sent_range : ℕ → ℤ → ℤ → Bool
-is_sent_range sent first last = int_le (pos 1) first && int_le first last && int_le last (pos sent)
-
-abbrev pub range_entry : ℕ → ℤ → ℤ → Entry
-range_entry sent first last =
-    if is_sent_range sent first last
-    then entry.Invalid (nat_abs first) (nat_abs last)
-    else entry.Ended first last
-
 -- ---- what is heard
 
 -- the host acts on a message, whichever channel it came on
 abbrev pub acts_on : ℕ → ℕ → Act → List Entry → Acted (List Entry)
 acts_on session channel (Invalidate first last) h =
-    entered_unless_ended session (range_entry (frames h) first last) h
+    entered_unless_ended session (named_range (frames h) first last) h
 acts_on session channel AskIdr h = entered_unless_ended session entry.IdrAsked h
 acts_on session channel (Input event) h = reporting (output.Input session channel event) h
 acts_on session channel Nothing h = quietly h

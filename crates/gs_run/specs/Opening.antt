@@ -3,7 +3,7 @@ use Rattle.std.specs.Prelude.{ℕ, ◌+◌, ◌-◌, ◌&&◌, Bool, [], ◌∷�
 use Rattle.gs_rtp.specs.Limits.{least_packet, most_packet, most_percentage, most_minimum}
 use Rattle.gs_frames.specs.Client.{ClientSettings, least_window, most_window}
 use Rattle.gs_enet.specs.Record.{PeerRecord, connecting, accepting}
-use Rattle.gs_enet.specs.World.{Side}
+use Rattle.gs_enet.specs.Sides.{new_side}
 use Rattle.gs_run.specs.CaptureFile.{CaptureFile}
 use Rattle.gs_run.specs.Session.{Part, State}
 use Rattle.gs_run.specs.Connection.{both_written_out, settled}
@@ -33,9 +33,6 @@ settings_of file ssrc packet percentage minimum window = record {
   };
   window = window;
 }
-
-abbrev pub new_side : PeerRecord → Side
-new_side peer = record { peer = peer; wrote = [] }
 
 -- The client has the id 0, and the connection is named by the number of the stream, which its data is too. The host's
 -- side is made by the client's CONNECT. The marks of the control datagrams stand behind the three that open it.

@@ -4,8 +4,10 @@ use Rattle.gs_tape.specs.Reading.{Fault}
 use Rattle.gs_frames.specs.Client.{Datagram}
 use Rattle.gs_frames.specs.Asks.{newly_asked}
 use Rattle.gs_enet.specs.Steps.{is_open, is_full}
+use Rattle.gs_store.specs.Named.{is_nameable}
 use Rattle.gs_run.specs.CaptureFile.{CaptureFile}
-use Rattle.gs_run.specs.Session.{Part, Session, State, video_of, audio_of, made_on, request_channel, session_numbered}
+use Rattle.gs_run.specs.Session.{Part, Session, State, video_of, audio_of, made_on, session_numbered}
+use Rattle.gs_client_core.specs.Owed.{request_channel}
 use Rattle.gs_run.specs.Scene.{Scene, scene_of}
 use Rattle.gs_run.specs.Deed.{SessionDeed, Turn, TakeVideo, TakeAudio, TakeUp, TakeDown, Give, AskIdr, Close, Reset, Mark, Deed, Open, Capture, Pass, In}
 use Rattle.gs_run.specs.Message.{event_channel}
@@ -17,14 +19,6 @@ pub data Refusal : Type 0 where
   BadFile : (fault : Fault) → Refusal
 
 -- ---- limits
-
--- how many of the last datagrams of a kind may be named
-abbrev pub most_named : ℕ
-most_named = 65536
-
--- the number, from 1, of one of the last of a list
-abbrev pub is_nameable : {A : Type 0} → List A → ℕ → Bool
-is_nameable sent k = nat_le 1 k && nat_le k (length sent) && nat_lt (length sent - k) most_named
 
 -- how many messages and asks a channel may have
 abbrev pub most_made : ℕ

@@ -7,6 +7,8 @@ use Rattle.gs_schedule.specs.declared.output.Output.{Output}
 use Rattle.gs_schedule.specs.declared.output.Output.TheVariants as output
 use Rattle.gs_schedule.specs.Output.{output_line}
 use Rattle.gs_audio.specs.Played.{PlayedUnit}
+use Rattle.gs_command.specs.declared.command.Detail.{Detail}
+use Rattle.gs_command.specs.declared.command.Detail.TheVariants.{Bytes, Brief, Sums}
 
 -- a line, and the unit that is handed or played with it
 pub record Report : Type 0 where
@@ -52,12 +54,6 @@ first >>= next = record {
 
 -- ---- the text
 
--- each line with the unit behind it, each line alone, or no line but the sums and the last
-pub data Detail : Type 0 where
-  Bytes : Detail
-  Brief : Detail
-  Sums : Detail
-
 abbrev pub unit_text : Option (List ℕ) → List ℕ
 unit_text None = []
 unit_text (Some unit) = unit ++ 10 ∷ []
@@ -67,6 +63,7 @@ is_sum (output.Total session frames handed asks inputs units) = true
 is_sum output.Done = true
 is_sum _ = false
 
+-- each line with the unit behind it, each line alone, or no line but the sums and the last
 abbrev pub report_text : Detail → Report → List ℕ
 report_text Bytes report = output_line report.output ++ unit_text report.unit
 report_text Brief report = output_line report.output

@@ -9,7 +9,8 @@ use Rattle.gs_schedule.specs.declared.status.TrialStatus.TheVariants as status
 use Rattle.gs_schedule.specs.declared.output.Output.TheVariants as output
 use Rattle.gs_run.specs.CaptureFile.{CaptureFile}
 use Rattle.gs_run.specs.Session.{State, start}
-use Rattle.gs_run.specs.Report.{Report, plain, Detail, text_of}
+use Rattle.gs_run.specs.Report.{Report, plain, text_of}
+use Rattle.gs_command.specs.declared.command.Detail.{Detail}
 use Rattle.gs_run.specs.Deed.{Deed}
 use Rattle.gs_run.specs.Refusal.{Refusal, BadLine, BadFile}
 use Rattle.gs_run.specs.Done.{Ran, ran}

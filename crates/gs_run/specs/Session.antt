@@ -3,6 +3,8 @@ use Rattle.std.specs.Prelude.{ℕ, zero, suc, ◌+◌, ◌-◌, List, [], ◌∷
 use Rattle.gs_tape.specs.Tick.{Tick}
 use Rattle.gs_refs.specs.declared.entry.Entry.{Entry}
 use Rattle.gs_frames.specs.declared.range.Range.{Range}
+use Rattle.gs_client_core.specs.declared.asker.Owed.{Owed}
+use Rattle.gs_client_core.specs.Owed.{request_channel}
 use Rattle.gs_frames.specs.Client.{ClientSettings, Arrival}
 use Rattle.gs_frames.specs.Handed.{Handed, handed}
 use Rattle.gs_frames.specs.Asks.{asks}
@@ -11,11 +13,6 @@ use Rattle.gs_stream.specs.Audio.{audio_stream}
 use Rattle.gs_enet.specs.Record.{given_count}
 use Rattle.gs_enet.specs.World.{Side}
 use Rattle.gs_audio.specs.Played.{PlayedUnit, played}
-
--- what a client is to ask its host for: what it lost, or a frame that needs no other
-pub data Owed : Type 0 where
-  Lost : (range : Range) → Owed
-  Idr : Owed
 
 -- up to which of the datagrams of each kind `pump` has delivered
 pub record Marks : Type 0 where
@@ -75,10 +72,6 @@ asked_of part = asks part.settings part.came
 -- the audio units that its client plays
 abbrev pub played_of : Part → List PlayedUnit
 played_of part = played part.settings.stream part.sound
-
--- asks and IDR requests go on this channel
-abbrev pub request_channel : ℕ
-request_channel = 1
 
 -- how many messages its client made on a channel: those given to its connection, and what it owes
 abbrev pub made_on : ℕ → Part → ℕ

@@ -10,22 +10,23 @@ use Rattle.gs_frames.specs.Handed.{newly_handed}
 use Rattle.gs_frames.specs.Asks.{newly_asked, as_list}
 use Rattle.gs_schedule.specs.declared.output.Output.TheVariants as output
 use Rattle.gs_audio.specs.Played.{newly_played}
-use Rattle.gs_run.specs.Session.{Lost, Idr, Part, video_of, audio_of}
+use Rattle.gs_run.specs.Session.{Part, video_of, audio_of}
+use Rattle.gs_client_core.specs.declared.asker.Owed.TheVariants.{Lost, Idr}
 use Rattle.gs_run.specs.Report.{Acted, quietly, reporting, ◌>>=◌, ask_report, hand_report, play_report}
 use Rattle.gs_run.specs.Hearing.{entered}
 use Rattle.gs_run.specs.Scene.{Scene}
 
 -- ---- the host's turn
 
-abbrev pub sent_entry : ℕ → Choice → Entry
-sent_entry tick chosen = entry.Sent tick chosen.kind chosen.reference
+abbrev pub turn_entry : ℕ → Choice → Entry
+turn_entry tick chosen = entry.Sent tick chosen.kind chosen.reference
 
 -- The host sends the newest tick as it chooses, unless that was sent or the session ended.
 abbrev pub newest_sent : Scene → Option Tick → List Entry → Acted (List Entry)
 newest_sent scene None h = quietly h
 newest_sent scene (Some newest) h =
     if nat_lt (last_tick h) scene.captured && not (has_ended h)
-    then entered scene.session (sent_entry scene.captured (choice h newest)) h
+    then entered scene.session (turn_entry scene.captured (choice h newest)) h
     else quietly h
 
 unfoldable pub turned : Scene → Part → Acted Part
