@@ -1,0 +1,10 @@
+pub mod Lists
+pub mod Puts
+pub mod Sounds
+pub mod Turns
+pub mod Gained
+pub mod Acted
+pub mod Chosen
+pub mod Failing
+pub mod Turned
+pub mod Opened

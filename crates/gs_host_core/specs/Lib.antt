@@ -1,0 +1,7 @@
+pub mod Acts
+pub mod Units
+pub mod Errors
+pub mod Puts
+pub mod Sounds
+pub mod Hosting
+pub mod Turning
