@@ -1,0 +1,68 @@
+-- One generated tick more is spelled.
+use Rattle.std.proofs.Common.{◌≡◌, ◌+◌, ◌<◌, ℕ, zero, suc, Option, Some, List, [], ◌∷◌, length, refl, sym, ap, subst, ◌∙◌, arith}
+use Rattle.std.specs.Prelude.{take, drop}
+use Rattle.gs_tape.specs.Tick.{Tick}
+use Rattle.gs_tape.specs.Writer.{Writing, IsNext, after_tick, opened}
+use Rattle.gs_tape.specs.Generated.{generated, ticks_from, tick, to_come}
+use Rattle.gs_tape.proofs.GeneratedWithin.{generated_is_writable}
+use Rattle.gs_tape.proofs.GeneratedFile.{AreNext, all_next, first_next, others_next}
+use Rattle.gs_generated.specs.declared.unspelled.Unspelled.{Unspelled}
+use Rattle.gs_generated.specs.Remaining.{IsSound, all_after, ticks_left, with_tick}
+
+one_more : (k : ℕ) → k + 1 ≡ suc k
+one_more k = omega arith
+
+none_left : (t : Tick) (ts : List Tick) → [] ≡ t ∷ ts → ⊥
+none_left t ts is = let n : length {A = Tick} [] ≡ length (t ∷ ts) = ap (λ (l : List Tick). length l) is in omega (arith, n)
+
+next_at : (w : Writing) (all : List Tick) (k : ℕ) → AreNext w all → AreNext (all_after w (take k all)) (drop k all)
+next_at w all zero next = next
+next_at w [] (suc k) next = next
+next_at w (t ∷ ts) (suc k) next = next_at (after_tick w t) ts k (others_next w (after_tick w t) (t ∷ ts) ts t refl refl next)
+
+pub is_next : (u : Unspelled) (t : Tick) (ts : List Tick) → IsSound u → ticks_left u ≡ t ∷ ts → IsNext u.writer t
+is_next u t ts sound is =
+    let all : List Tick = generated u.number u.ticks in
+    let next = next_at (opened 240) all u.spelled (all_next 240 5 all (opened 240) refl (generated_is_writable u.number u.ticks sound.few)) in
+    let Next : Writing → Type 0 = λ w. IsNext w t in
+    subst Next (sym sound.behind) (first_next _ (drop u.spelled all) ts t (sym sound.left ∙ is) next)
+
+rest_suc : (all : List Tick) (k : ℕ) (t : Tick) (ts : List Tick) → drop k all ≡ t ∷ ts → drop (suc k) all ≡ ts
+rest_suc [] zero t ts is = absurd (none_left t ts is)
+rest_suc [] (suc k) t ts is = absurd (none_left t ts is)
+rest_suc (x ∷ xs) zero t ts is = ap (λ (l : List Tick). drop 1 l) is
+rest_suc (x ∷ xs) (suc k) t ts is = rest_suc xs k t ts is
+
+pub rest_one : (all : List Tick) (k : ℕ) (t : Tick) (ts : List Tick) → drop k all ≡ t ∷ ts → drop (k + 1) all ≡ ts
+rest_one all k t ts is = ap (λ (n : ℕ). drop n all) (one_more k) ∙ rest_suc all k t ts is
+
+after_suc : (w : Writing) (all : List Tick) (k : ℕ) (t : Tick) (ts : List Tick) → drop k all ≡ t ∷ ts
+    → all_after w (take (suc k) all) ≡ after_tick (all_after w (take k all)) t
+after_suc w [] zero t ts is = absurd (none_left t ts is)
+after_suc w [] (suc k) t ts is = absurd (none_left t ts is)
+after_suc w (x ∷ xs) zero t ts is = ap (λ (l : List Tick). all_after w (take 1 l)) is
+after_suc w (x ∷ xs) (suc k) t ts is = after_suc (after_tick w x) xs k t ts is
+
+pub after_one : (w : Writing) (all : List Tick) (k : ℕ) (t : Tick) (ts : List Tick) → drop k all ≡ t ∷ ts
+    → all_after w (take (k + 1) all) ≡ after_tick (all_after w (take k all)) t
+after_one w all k t ts is = ap (λ (n : ℕ). all_after w (take n all)) (one_more k) ∙ after_suc w all k t ts is
+
+pub some_left : (all : List Tick) (k : ℕ) (t : Tick) (ts : List Tick) → drop k all ≡ t ∷ ts → k < length all
+some_left [] zero t ts is = absurd (none_left t ts is)
+some_left [] (suc k) t ts is = absurd (none_left t ts is)
+some_left (x ∷ xs) zero t ts is = omega (arith)
+some_left (x ∷ xs) (suc k) t ts is = let more = some_left xs k t ts is in omega (arith, more)
+
+length-ticks_from : (n t s : ℕ) → length (ticks_from n t s) ≡ n
+unfolding ticks_from
+length-ticks_from zero t s = refl
+length-ticks_from (suc n) t s = ap suc (length-ticks_from n (t + 1) (tick t s).state)
+
+pub few_spelled : (u : Unspelled) (t : Tick) (ts : List Tick) → IsSound u → ticks_left u ≡ t ∷ ts → u.spelled < 2000
+few_spelled u t ts sound is =
+    let more : u.spelled < length (generated u.number u.ticks) = some_left (generated u.number u.ticks) u.spelled t ts (sym sound.left ∙ is) in
+    omega (arith, more, length-ticks_from u.ticks 1 u.number, sound.few)
+
+-- a tick at hand is the first that is left
+pub at_hand : (u : Unspelled) (t : Tick) → u.tick ≡ Some t → ticks_left u ≡ t ∷ to_come u.generator
+at_hand u t is = ap (λ (o : Option Tick). with_tick o (to_come u.generator)) is

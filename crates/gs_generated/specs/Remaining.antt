@@ -1,0 +1,46 @@
+-- What remains of a generated file.
+use Rattle.std.specs.Prelude.{ℕ, ◌≡◌, ◌≤◌, Bool, true, false, List, [], ◌∷◌, ◌++◌, length, take, drop, Option, Some, None}
+use Rattle.std.specs.List.{flat_map}
+use Rattle.gs_tape.specs.Tick.{Tick}
+use Rattle.gs_tape.specs.Capture as capture
+use Rattle.gs_tape.specs.Generated.{generated, to_come}
+use Rattle.gs_tape.specs.Writer.{Writing, after_tick, opened}
+use Rattle.gs_generated.specs.declared.pieces.Pieces.{Pieces}
+use Rattle.gs_generated.specs.declared.unspelled.Unspelled.{Unspelled}
+
+-- a generated file: the bytes that are left to read
+pub record Remaining : Type 0 where
+  pub left : List ℕ
+
+-- the ticks that aren't spelled yet, of which the first may be at hand
+abbrev pub with_tick : Option Tick → List Tick → List Tick
+with_tick None ticks = ticks
+with_tick (Some tick) ticks = tick ∷ ticks
+
+abbrev pub ticks_left : Unspelled → List Tick
+ticks_left u = with_tick u.tick (to_come u.generator)
+
+-- their bytes and the end mark, unless that was spelled
+abbrev pub bytes_left : Bool → Unspelled → List ℕ
+bytes_left true u = []
+bytes_left false u = flat_map capture.tick (ticks_left u) ++ 0x45 ∷ []
+
+-- a writer behind these ticks
+abbrev pub all_after : Writing → List Tick → Writing
+all_after w [] = w
+all_after w (t ∷ ts) = all_after (after_tick w t) ts
+
+-- The first of the generated ticks are spelled, and the others are left.
+pub record IsSound (u : Unspelled) : Type 0 where
+  pub few : u.ticks ≤ 2000
+  pub left : ticks_left u ≡ drop u.spelled (generated u.number u.ticks)
+  pub behind : u.writer ≡ all_after (opened 240) (take u.spelled (generated u.number u.ticks))
+
+-- a piece is read no further than its end
+pub record IsWhole (p : Pieces) : Type 0 where
+  pub sound : IsSound p.unspelled
+  pub within : p.at ≤ length p.piece.written
+
+-- what is left of the last piece, and what isn't spelled yet
+abbrev pub pieces_left : Pieces → List ℕ
+pieces_left p = drop p.at p.piece.written ++ bytes_left p.ended p.unspelled
