@@ -29,10 +29,12 @@ import time
 
 PROGRAM = pathlib.Path(__file__).resolve().parent.parent / "crates/gsbench/out/gsbench"
 LEN = 1376  # bytes of a shard
+MOST = (1 << 20) - 1  # turns: in some workloads a turn is a frame, and one turn more is made than these
 LIBRARIES = {"isal_bench": ["-lisal"], "enet_bench": ["-lenet", "-lpthread"]}
 UNITS = {"GB/s": 1e9, "MB/s": 1e6, "messages/s": 1.0}
 
-# name of the row, words before the count, bytes of data each time, and the peer's line or None
+# name of the row, words before the count, bytes of data each time or None where the program says it, and the peer's
+# line or None
 CODES = [(73, 15), (212, 43), (8, 2)]
 WORKLOADS = [("mul_add", ["mul_add", LEN], LEN, "isal_mul_add")]
 for d, p in CODES:
@@ -48,6 +50,10 @@ FRAME = [1392, 20, 41_000]
 WORKLOADS.append(("split", ["split", *FRAME], FRAME[2], None))
 WORKLOADS.append(("receive", ["receive", *FRAME, 0], FRAME[2], None))
 WORKLOADS.append(("receive, 1 of 20 lost", ["receive", *FRAME, 20], FRAME[2], None))
+# a capture file of generated ticks, read from memory, where its ticks are dropped, and where eight hold each
+TICKS = 60
+WORKLOADS.append((f"read {TICKS} ticks", ["tape", 7, TICKS], None, None))
+WORKLOADS.append(("the same, eight hold", ["tape_held", 7, TICKS], None, None))
 
 
 def clock():
@@ -59,6 +65,12 @@ def processor():
     return used.ru_utime + used.ru_stime
 
 
+def size_of(words):
+    """The bytes of data each time, as the program says."""
+    text = subprocess.run([PROGRAM, *map(str, words), "1"], capture_output=True, text=True, check=True).stdout
+    return int(text.split()[-1])
+
+
 def seconds(words, now):
     begin = now()
     subprocess.run([PROGRAM, *map(str, words)], stdout=subprocess.DEVNULL, check=True)
@@ -66,11 +78,11 @@ def seconds(words, now):
 
 
 def count_for(words, least, now):
-    """A count that takes about as many seconds."""
+    """A count that takes about as many seconds, where that is no more than MOST."""
     count = 1
-    while (took := seconds([*words, count], now)) < least / 4:
-        count *= 4
-    return max(1, int(count * least / took))
+    while (took := seconds([*words, count], now)) < least / 4 and count < MOST:
+        count = min(4 * count, MOST)
+    return min(MOST, max(1, int(count * least / took)))
 
 
 def peers_in(folder, built, own_clock):
@@ -115,9 +127,10 @@ def main():
         programs = peers_in(pathlib.Path(args.peers), pathlib.Path(built), args.processor) if args.peers else []
         if not args.peers:
             print("no peers: name their folder by --peers or SPEED_PEERS")
-        counts = {name: count_for(given, args.seconds, now) for name, given, _, _ in WORKLOADS}
+        workloads = [(name, given, size or size_of(given), line) for name, given, size, line in WORKLOADS]
+        counts = {name: count_for(given, args.seconds, now) for name, given, _, _ in workloads}
         for _ in range(args.rounds):
-            for name, given, size, _ in WORKLOADS:
+            for name, given, size, _ in workloads:
                 more = seconds([*given, counts[name] + 1], now) - seconds([*given, 1], now)
                 best[name] = max(best.get(name, 0), counts[name] * size / more)
             for program in programs:
@@ -131,7 +144,8 @@ def main():
         digits = 2 if name in COUNTED else 0
         rest = f"{peer / 1e6:>10.{digits}f}{best[name] / peer:>8.2f}" if peer else f"{'-':>10}{'-':>8}"
         print(f"{name:<24}{best[name] / 1e6:>10.{digits}f}{rest}")
-    print("messages: millions a second; the peer's go through the system's sockets, those of gsbench stay in memory")
+    print("messages: millions a second")
+    print("the peer's messages go through the system's sockets, those of gsbench stay in memory")
 
 
 if __name__ == "__main__":

@@ -1,3 +1,4 @@
 mod Examples
+pub mod Captures
 pub mod Splits
 pub mod Texts

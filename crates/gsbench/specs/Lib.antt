@@ -1,4 +1,5 @@
 pub mod Checksum
 pub mod Report
+pub mod Ticks
 pub mod Words
 pub mod Workloads

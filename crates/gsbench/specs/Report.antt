@@ -5,6 +5,12 @@ use Rattle.gs_enet.specs.declared.send_error.SendError.{SendError}
 use Rattle.gs_enet.specs.declared.send_error.SendError.TheVariants as sends
 use Rattle.gs_enet.specs.declared.take_error.TakeError.{TakeError}
 use Rattle.gs_enet.specs.declared.take_error.TakeError.TheVariants as takes
+use Rattle.gs_tape.specs.declared.error.TapeError.{TapeError}
+use Rattle.gs_tape.specs.declared.error.TapeError.TheVariants as tapes
+use Rattle.gs_tape.specs.declared.write_error.WriteError.{WriteError}
+use Rattle.gs_tape.specs.declared.write_error.WriteError.TheVariants as writes
+use Rattle.gsbench.specs.declared.report.Counted.{Counted}
+use Rattle.gsbench.specs.declared.report.Counted.TheVariants as counted
 use Rattle.gsbench.specs.declared.report.Report.{Report}
 use Rattle.gsbench.specs.declared.report.Stop.{Stop}
 use Rattle.gsbench.specs.declared.report.Stop.TheVariants as stops
@@ -13,8 +19,14 @@ use Rattle.gsbench.specs.declared.report.Stop.TheVariants as stops
 abbrev pub hex_word : ℕ → List ℕ
 hex_word n = replicate (8 - length (digits 16 false n)) 48 ++ digits 16 false n
 
+-- the word in front of what is counted
+abbrev pub counted_word : Counted → List ℕ
+counted_word counted.Bytes = codes " bytes "
+counted_word counted.Calls = codes " calls "
+
 abbrev pub report_line : Report → List ℕ
-report_line report = codes "checksum " ++ (hex_word report.checksum ++ (codes " bytes " ++ decimal report.bytes))
+report_line report =
+    codes "checksum " ++ (hex_word report.checksum ++ (counted_word report.counted ++ decimal report.amount))
 
 abbrev pub stop_line : Stop → List ℕ
 stop_line (stops.Usage word) = codes "usage: word " ++ decimal word
@@ -39,3 +51,16 @@ send_stop sends.OutOfMemory = stops.OutOfMemory
 abbrev pub take_stop : TakeError → Stop
 take_stop (takes.BadDatagram place) = stops.Untold
 take_stop takes.OutOfMemory = stops.OutOfMemory
+
+-- why there is no report, where a capture file could not be written or read
+abbrev pub write_stop : WriteError → Stop
+write_stop writes.WriteFault = stops.Untold
+write_stop writes.OutOfMemory = stops.OutOfMemory
+
+abbrev pub tape_stop : TapeError → Stop
+tape_stop tapes.TapeFault = stops.Untold
+tape_stop (tapes.BadTape kind place) = stops.Untold
+tape_stop (tapes.TapeFull tick) = stops.Untold
+tape_stop (tapes.UnitTooLarge tick) = stops.Untold
+tape_stop (tapes.AudioLength length) = stops.Untold
+tape_stop tapes.OutOfMemory = stops.OutOfMemory

@@ -59,6 +59,10 @@ receive_limits = frame_limits (any_number ∷ from_to 1 most_frame ∷ [])
 abbrev pub split_limits : List Limits
 split_limits = frame_limits (any_count ∷ [])
 
+-- the number of a generated capture, and how many ticks it has
+abbrev pub tape_limits : List Limits
+tape_limits = any_number ∷ from_to 1 2000 ∷ any_count ∷ []
+
 -- the first word, no bytes where there is none
 abbrev pub first_word : List (String Global) → List ℕ
 first_word words = option_map_or string_bytes (slice_get words 0) []
@@ -73,7 +77,9 @@ workload_named name =
     else (if pointwise nat_eq name (codes "messages") then Some workload.Messages
     else (if pointwise nat_eq name (codes "receive") then Some workload.Receive
     else (if pointwise nat_eq name (codes "split") then Some workload.Split
-    else None))))))
+    else (if pointwise nat_eq name (codes "tape") then Some workload.Tape
+    else (if pointwise nat_eq name (codes "tape_held") then Some workload.TapeHeld
+    else None))))))))
 
 -- what the words of a workload are to be
 abbrev pub limits_of : List (String Global) → Workload → List Limits
@@ -84,6 +90,8 @@ limits_of words workload.Restore = restore_limits words
 limits_of words workload.Messages = messages_limits
 limits_of words workload.Receive = receive_limits
 limits_of words workload.Split = split_limits
+limits_of words workload.Tape = tape_limits
+limits_of words workload.TapeHeld = tape_limits
 
 -- the number, from 1, of the first word that doesn't fit or is missing: the first one where it names no workload
 abbrev pub misfit_at : List (String Global) → Option Workload → Option ℕ

@@ -5,7 +5,7 @@ ghost use Rattle.gsbench.specs.Workloads.{IsJudged, IsJudgedBy, first_word, limi
 
 use crate::report::{Report, Stop};
 use crate::workload::{Workload, workload_named};
-use crate::{codes, frames, messages, receive, rows};
+use crate::{codes, frames, messages, receive, rows, tape};
 use std::alloc::Global;
 
 // The first word, no bytes where there is none.
@@ -21,7 +21,7 @@ fn first_word(words: &[String]) -> &[u8]
 // Runs a workload.
 fn run(alloc: Global, workload: Workload, words: &[String]) -> Result<Report, Stop>
     ensures usage { IsJudged (limits_of words.now workload) words.now result }
-    ensures bytes { IfOk result (λ report. 0 < report.bytes) }
+    ensures amount { IfOk result (λ report. 0 < report.amount) }
 {
     match workload {
         Workload::MulAdd => rows::run(alloc, words),
@@ -31,13 +31,15 @@ fn run(alloc: Global, workload: Workload, words: &[String]) -> Result<Report, St
         Workload::Messages => messages::run(alloc, words),
         Workload::Receive => receive::run(alloc, words),
         Workload::Split => frames::run_split(alloc, words),
+        Workload::Tape => tape::run(alloc, words),
+        Workload::TapeHeld => tape::run_held(alloc, words),
     }
 }
 
 // Runs the workload that was named, if one was.
 fn run_named(alloc: Global, workload: Option<Workload>, words: &[String]) -> Result<Report, Stop>
     ensures usage { IsJudgedBy (misfit_at words.now workload) result }
-    ensures bytes { IfOk result (λ report. 0 < report.bytes) }
+    ensures amount { IfOk result (λ report. 0 < report.amount) }
 {
     match workload {
         Some(workload) => run(alloc, workload, words),
@@ -48,7 +50,7 @@ fn run_named(alloc: Global, workload: Option<Workload>, words: &[String]) -> Res
 /// Runs the workload that the first word names.
 pub fn bench(alloc: Global, words: &[String]) -> Result<Report, Stop>
     ensures usage { IsJudgedBy (misfit words.now) result }
-    ensures bytes { IfOk result (λ report. 0 < report.bytes) }
+    ensures amount { IfOk result (λ report. 0 < report.amount) }
 {
     run_named(alloc, workload_named(first_word(words)), words)
 }

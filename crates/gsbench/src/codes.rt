@@ -5,7 +5,7 @@ ghost use Rattle.gs_rs.specs.Shape.{shard_count, IsCode};
 ghost use Rattle.gsbench.specs.Words.{number_word};
 ghost use Rattle.gsbench.specs.Workloads.{IsJudged, IsStopAtCode, encode_limits, parity_limits, restore_limits};
 
-use crate::report::{Report, Stop};
+use crate::report::{Counted, Report, Stop};
 use crate::sample::{SEED, checksum, made};
 use crate::words::{expect_end, number_at};
 use gs_rs::{Code, MAX_SHARDS};
@@ -28,7 +28,7 @@ fn code_of(words: &[String]) -> Result<Code, Stop>
 /// `encode D P LEN COUNT`.
 pub fn run_encode(alloc: Global, words: &[String]) -> Result<Report, Stop>
     ensures usage { IsJudged (encode_limits words.now) words.now result }
-    ensures bytes { IfOk result (λ report. 0 < report.bytes) }
+    ensures amount { IfOk result (λ report. 0 < report.amount) }
 {
     let code = code_of(words)?;
     let len = number_at(words, 3, 1, MAX_LEN)? as usize;
@@ -39,7 +39,8 @@ pub fn run_encode(alloc: Global, words: &[String]) -> Result<Report, Stop>
     encode_often(&code, len, &mut source, &mut parity, count);
     Ok(Report {
         checksum: checksum(&parity),
-        bytes: (code.data() * len) as u64 * u64::from(count),
+        counted: Counted::Bytes,
+        amount: (code.data() * len) as u64 * u64::from(count),
     })
 }
 
@@ -59,7 +60,7 @@ fn encode_often(code: &Code, len: usize, source: &mut [u8], parity: &mut [u8], c
 /// `parity D P LEN SEED COUNT`: the parity of the bytes from a seed, which other programs can print too.
 pub fn run_parity(alloc: Global, words: &[String]) -> Result<Report, Stop>
     ensures usage { IsJudged (parity_limits words.now) words.now result }
-    ensures bytes { IfOk result (λ report. 0 < report.bytes) }
+    ensures amount { IfOk result (λ report. 0 < report.amount) }
 {
     let code = code_of(words)?;
     let len = number_at(words, 3, 1, MAX_LEN)? as usize;
@@ -73,14 +74,15 @@ pub fn run_parity(alloc: Global, words: &[String]) -> Result<Report, Stop>
     }
     Ok(Report {
         checksum: checksum(&parity),
-        bytes: (code.data() * len) as u64 * u64::from(count),
+        counted: Counted::Bytes,
+        amount: (code.data() * len) as u64 * u64::from(count),
     })
 }
 
 /// `restore D P LEN LOST COUNT`.
 pub fn run_restore(alloc: Global, words: &[String]) -> Result<Report, Stop>
     ensures usage { IsJudged (restore_limits words.now) words.now result }
-    ensures bytes { IfOk result (λ report. 0 < report.bytes) }
+    ensures amount { IfOk result (λ report. 0 < report.amount) }
 {
     let code = code_of(words)?;
     let len = number_at(words, 3, 1, MAX_LEN)? as usize;
@@ -99,7 +101,8 @@ pub fn run_restore(alloc: Global, words: &[String]) -> Result<Report, Stop>
     );
     Ok(Report {
         checksum: checksum(&shards),
-        bytes: (code.data() * len) as u64 * u64::from(count),
+        counted: Counted::Bytes,
+        amount: (code.data() * len) as u64 * u64::from(count),
     })
 }
 

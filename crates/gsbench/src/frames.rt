@@ -6,7 +6,7 @@ ghost use Rattle.gs_frames.specs.Datagrams.{OutgoingFrame, frame_datagrams};
 ghost use Rattle.gs_split.specs.Splitting.{IsLoaded};
 ghost use Rattle.gsbench.specs.Workloads.{IsJudged, split_limits};
 
-use crate::report::{Report, Stop};
+use crate::report::{Counted, Report, Stop};
 use crate::sample::{SEED, checksum, made};
 use crate::settings::settings_of;
 use crate::words::{expect_end, number_at};
@@ -24,7 +24,7 @@ pub const ROOM: usize = 1_456;
 /// `split Z P LEN COUNT`.
 pub fn run_split(alloc: Global, words: &[String]) -> Result<Report, Stop>
     ensures usage { IsJudged split_limits words.now result }
-    ensures bytes { IfOk result (λ report. 0 < report.bytes) }
+    ensures amount { IfOk result (λ report. 0 < report.amount) }
 {
     let settings = settings_of(words)?;
     let len = number_at(words, 3, 1, MOST_UNIT)?;
@@ -36,7 +36,8 @@ pub fn run_split(alloc: Global, words: &[String]) -> Result<Report, Stop>
     split_often(&mut splitter, &unit, count, &mut out);
     Ok(Report {
         checksum: checksum(&out),
-        bytes: u64::from(len) * u64::from(count),
+        counted: Counted::Bytes,
+        amount: u64::from(len) * u64::from(count),
     })
 }
 

@@ -9,13 +9,16 @@
 //! | `messages BATCH COUNT` | brings a message of 16 bytes from one ENet peer to another in memory |
 //! | `receive Z P LEN EVERY COUNT` | takes the datagrams of a frame of LEN bytes at packet size Z and percentage P of parity, and hands it; each EVERY-th datagram is lost, none at 0 |
 //! | `split Z P LEN COUNT` | splits a frame of LEN bytes at packet size Z and percentage P of parity, and writes each datagram |
+//! | `tape N T COUNT` | reads the capture file of the T ticks that N generates, which is written to memory once |
+//! | `tape_held N T COUNT` | the same, and each tick is handed to eight holders |
 //!
 //! It prints one line: a checksum of what the last turn left (FNV-1a of 32 bits), and how many bytes of
-//! data were gone through. So the time that it takes is that of a proved program, and no work can be left
-//! out. Messages are given BATCH at a time, and then all that either side writes is brought to the other;
-//! a message that isn't told is `untold`, with status 1. The first word that doesn't fit or is missing is
-//! `usage: word W`, counted from 1, with status 2; want of memory is `out of memory`, with status 12. A number
-//! is decimal, without a sign or a leading zero.
+//! data were gone through, or how many calls were made where each is small. So the time that it takes is that
+//! of a proved program, and no work can be left out. Messages are given BATCH at a time, and then all that
+//! either side writes is brought to the other. A message that isn't told, a file that isn't read, a unit that
+//! isn't chosen or a tick that isn't there is `untold`, with status 1. The first word that doesn't fit or is
+//! missing is `usage: word W`, counted from 1, with status 2; want of memory is `out of memory`, with status 12.
+//! A number is decimal, without a sign or a leading zero.
 #![tactic(auto)]
 
 mod bench;
@@ -27,6 +30,8 @@ mod report;
 mod rows;
 mod sample;
 mod settings;
+mod shared;
+mod tape;
 mod words;
 mod workload;
 

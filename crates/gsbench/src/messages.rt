@@ -3,7 +3,7 @@ ghost use Rattle.std.specs.Prelude.{◌≡◌, ◌<◌, IfErr, IfOk};
 ghost use Rattle.gsbench.specs.Report.{IsNoUsage};
 ghost use Rattle.gsbench.specs.Workloads.{IsJudged, messages_limits};
 
-use crate::report::{Report, Stop};
+use crate::report::{Counted, Report, Stop};
 use crate::sample::checksum;
 use crate::words::{expect_end, number_at};
 use gs_bytes::Text;
@@ -25,7 +25,7 @@ const MOST_DATAGRAMS: u32 = 1000;
 /// `messages BATCH COUNT`: COUNT messages, of which BATCH are given before each writing.
 pub fn run(alloc: Global, words: &[String]) -> Result<Report, Stop>
     ensures usage { IsJudged messages_limits words.now result }
-    ensures bytes { IfOk result (λ report. 0 < report.bytes) }
+    ensures amount { IfOk result (λ report. 0 < report.amount) }
 {
     let batch = number_at(words, 1, 1, MOST_BATCH)?;
     let count = number_at(words, 2, 1, u32::MAX)?;
@@ -43,7 +43,8 @@ pub fn run(alloc: Global, words: &[String]) -> Result<Report, Stop>
     };
     Ok(Report {
         checksum: checksum(last.as_bytes()),
-        bytes: LEN as u64 * u64::from(count),
+        counted: Counted::Bytes,
+        amount: LEN as u64 * u64::from(count),
     })
 }
 

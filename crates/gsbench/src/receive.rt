@@ -9,7 +9,7 @@ ghost use Rattle.gsbench.specs.Report.{IsNoUsage};
 ghost use Rattle.gsbench.specs.Workloads.{IsJudged, receive_limits};
 
 use crate::frames::{KIND_IDR, ROOM};
-use crate::report::{Report, Stop};
+use crate::report::{Counted, Report, Stop};
 use crate::sample::{SEED, checksum, made};
 use crate::settings::settings_of;
 use crate::words::{expect_end, number_at};
@@ -32,7 +32,7 @@ const FRAME: usize = 20;
 /// datagram is lost, none at 0.
 pub fn run(alloc: Global, words: &[String]) -> Result<Report, Stop>
     ensures usage { IsJudged receive_limits words.now result }
-    ensures bytes { IfOk result (λ report. 0 < report.bytes) }
+    ensures amount { IfOk result (λ report. 0 < report.amount) }
 {
     let settings = settings_of(words)?;
     let len = number_at(words, 3, 1, MOST_UNIT)?;
@@ -48,7 +48,8 @@ pub fn run(alloc: Global, words: &[String]) -> Result<Report, Stop>
     let last = receive_often(&mut queue, &mut datagrams, payload, every, count);
     Ok(Report {
         checksum: checksum(queue.image(last)),
-        bytes: u64::from(len) * u64::from(count),
+        counted: Counted::Bytes,
+        amount: u64::from(len) * u64::from(count),
     })
 }
 

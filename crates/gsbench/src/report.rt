@@ -3,18 +3,27 @@ ghost use Rattle.std.specs.Prelude.{◌≡◌};
 ghost use Rattle.gsbench.specs.Report.{stop_status};
 
 use gs_enet::{SendError, TakeError};
+use gs_tape::{TapeError, WriteError};
 use std::alloc::AllocError;
 use std::fmt;
 
-/// What the last turn left, and how many bytes of data all turns went through.
+/// What is counted of a workload.
+#[derive(Clone, Copy, Debug, PartialEq, Eq)]
+pub enum Counted {
+    Bytes,
+    Calls,
+}
+
+/// What the last turn left, and how many bytes of data all turns went through, or how many calls they made.
 #[derive(Clone, Copy, Debug, PartialEq, Eq)]
 pub struct Report {
     pub checksum: u32,
-    pub bytes: u64,
+    pub counted: Counted,
+    pub amount: u64,
 }
 
-/// Why there is no report: a word doesn't fit, by its number from 1; a message wasn't told; or there is
-/// no memory.
+/// Why there is no report: a word doesn't fit, by its number from 1; a message wasn't told, a file not read, a unit not
+/// chosen or a tick not there; or there is no memory.
 #[derive(Clone, Copy, Debug, PartialEq, Eq)]
 pub enum Stop {
     Usage { word: usize },
@@ -30,7 +39,10 @@ impl fmt::Display for Report {
     ghost output = { λ report. Some (report_line report) };
 
     fn fmt<W: fmt::Write>(&self, f: &mut fmt::Formatter<W>) -> fmt::Result {
-        write!(f, "checksum {:08x} bytes {}", self.checksum, self.bytes)
+        match self.counted {
+            Counted::Bytes => write!(f, "checksum {:08x} bytes {}", self.checksum, self.amount),
+            Counted::Calls => write!(f, "checksum {:08x} calls {}", self.checksum, self.amount),
+        }
     }
 }
 
@@ -109,6 +121,34 @@ impl From<TakeError> for Stop {
         match error {
             TakeError::BadDatagram(_) => Stop::Untold,
             TakeError::OutOfMemory => Stop::OutOfMemory,
+        }
+    }
+}
+
+impl From<WriteError> for Stop {
+    ghost use Rattle.std.specs.Prelude.{◌≡◌};
+    ghost use Rattle.gsbench.specs.Report.{write_stop};
+
+    ghost from_gives = { λ error stop. stop ≡ write_stop error };
+
+    fn from(error: WriteError) -> Stop {
+        match error {
+            WriteError::WriteFault => Stop::Untold,
+            WriteError::OutOfMemory => Stop::OutOfMemory,
+        }
+    }
+}
+
+impl From<TapeError> for Stop {
+    ghost use Rattle.std.specs.Prelude.{◌≡◌};
+    ghost use Rattle.gsbench.specs.Report.{tape_stop};
+
+    ghost from_gives = { λ error stop. stop ≡ tape_stop error };
+
+    fn from(error: TapeError) -> Stop {
+        match error {
+            TapeError::OutOfMemory => Stop::OutOfMemory,
+            _ => Stop::Untold,
         }
     }
 }

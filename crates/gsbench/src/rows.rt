@@ -2,7 +2,7 @@
 ghost use Rattle.std.specs.Prelude.{◌≡◌, ◌<◌, length, IfOk};
 ghost use Rattle.gsbench.specs.Workloads.{IsJudged, mul_add_limits};
 
-use crate::report::{Report, Stop};
+use crate::report::{Counted, Report, Stop};
 use crate::sample::{SEED, checksum, made};
 use crate::words::{expect_end, number_at};
 use gs_gf256::mul_add;
@@ -13,7 +13,7 @@ const MAX_LEN: u32 = 1 << 20;
 /// `mul_add LEN COUNT`.
 pub fn run(alloc: Global, words: &[String]) -> Result<Report, Stop>
     ensures usage { IsJudged mul_add_limits words.now result }
-    ensures bytes { IfOk result (λ report. 0 < report.bytes) }
+    ensures amount { IfOk result (λ report. 0 < report.amount) }
 {
     let len = number_at(words, 1, 1, MAX_LEN)?;
     let count = number_at(words, 2, 1, u32::MAX)?;
@@ -23,7 +23,8 @@ pub fn run(alloc: Global, words: &[String]) -> Result<Report, Stop>
     add_often(&mut sums, &source, count);
     Ok(Report {
         checksum: checksum(&sums),
-        bytes: u64::from(len) * u64::from(count),
+        counted: Counted::Bytes,
+        amount: u64::from(len) * u64::from(count),
     })
 }
 

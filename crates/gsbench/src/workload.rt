@@ -12,6 +12,8 @@ pub enum Workload {
     Messages,
     Receive,
     Split,
+    Tape,
+    TapeHeld,
 }
 
 /// The workload of a name.
@@ -38,6 +40,12 @@ pub fn workload_named(name: &[u8]) -> Option<Workload>
     }
     if name == b"split".as_slice() {
         return Some(Workload::Split);
+    }
+    if name == b"tape".as_slice() {
+        return Some(Workload::Tape);
+    }
+    if name == b"tape_held".as_slice() {
+        return Some(Workload::TapeHeld);
     }
     None
 }

@@ -38,3 +38,11 @@ returns-in-Receive-clause-usage c =
 pub returns-in-Split-clause-usage : goal.returns-in-Split-clause-usage
 returns-in-Split-clause-usage c =
     subst (IsJudgedAs c.args.words.now c.run_split.result) (sym c.in-Split.is) c.run_split.ensures.usage
+
+pub returns-in-Tape-clause-usage : goal.returns-in-Tape-clause-usage
+returns-in-Tape-clause-usage c =
+    subst (IsJudgedAs c.args.words.now c.run-in-Tape.result) (sym c.in-Tape.is) c.run-in-Tape.ensures.usage
+
+pub returns-in-TapeHeld-clause-usage : goal.returns-in-TapeHeld-clause-usage
+returns-in-TapeHeld-clause-usage c =
+    subst (IsJudgedAs c.args.words.now c.run_held.result) (sym c.in-TapeHeld.is) c.run_held.ensures.usage
