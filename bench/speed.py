@@ -54,6 +54,9 @@ WORKLOADS.append(("receive, 1 of 20 lost", ["receive", *FRAME, 20], FRAME[2], No
 TICKS = 60
 WORKLOADS.append((f"read {TICKS} ticks", ["tape", 7, TICKS], None, None))
 WORKLOADS.append(("the same, eight hold", ["tape_held", 7, TICKS], None, None))
+# rows of calls: choices of a session that loses frames
+WORKLOADS.append(("choose", ["choose"], 1, None))
+COUNTED |= {"choose"}
 
 
 def clock():
@@ -144,7 +147,7 @@ def main():
         digits = 2 if name in COUNTED else 0
         rest = f"{peer / 1e6:>10.{digits}f}{best[name] / peer:>8.2f}" if peer else f"{'-':>10}{'-':>8}"
         print(f"{name:<24}{best[name] / 1e6:>10.{digits}f}{rest}")
-    print("messages: millions a second")
+    print("messages and choices: millions a second")
     print("the peer's messages go through the system's sockets, those of gsbench stay in memory")
 
 

@@ -1,4 +1,5 @@
 mod Examples
 pub mod Captures
+pub mod Losses
 pub mod Splits
 pub mod Texts

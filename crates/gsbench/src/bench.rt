@@ -5,7 +5,7 @@ ghost use Rattle.gsbench.specs.Workloads.{IsJudged, IsJudgedBy, first_word, limi
 
 use crate::report::{Report, Stop};
 use crate::workload::{Workload, workload_named};
-use crate::{codes, frames, messages, receive, rows, tape};
+use crate::{choose, codes, frames, messages, receive, rows, tape};
 use std::alloc::Global;
 
 // The first word, no bytes where there is none.
@@ -33,6 +33,7 @@ fn run(alloc: Global, workload: Workload, words: &[String]) -> Result<Report, St
         Workload::Split => frames::run_split(alloc, words),
         Workload::Tape => tape::run(alloc, words),
         Workload::TapeHeld => tape::run_held(alloc, words),
+        Workload::Choose => choose::run(alloc, words),
     }
 }
 

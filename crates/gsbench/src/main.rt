@@ -9,6 +9,7 @@
 //! | `messages BATCH COUNT` | brings a message of 16 bytes from one ENet peer to another in memory |
 //! | `receive Z P LEN EVERY COUNT` | takes the datagrams of a frame of LEN bytes at packet size Z and percentage P of parity, and hands it; each EVERY-th datagram is lost, none at 0 |
 //! | `split Z P LEN COUNT` | splits a frame of LEN bytes at packet size Z and percentage P of parity, and writes each datagram |
+//! | `choose COUNT` | chooses a unit of a tick for a session, which has lost its last three frames each time that 30 were sent |
 //! | `tape N T COUNT` | reads the capture file of the T ticks that N generates, which is written to memory once |
 //! | `tape_held N T COUNT` | the same, and each tick is handed to eight holders |
 //!
@@ -22,6 +23,7 @@
 #![tactic(auto)]
 
 mod bench;
+mod choose;
 mod codes;
 mod frames;
 mod messages;

@@ -14,6 +14,7 @@ pub enum Workload {
     Split,
     Tape,
     TapeHeld,
+    Choose,
 }
 
 /// The workload of a name.
@@ -46,6 +47,9 @@ pub fn workload_named(name: &[u8]) -> Option<Workload>
     }
     if name == b"tape_held".as_slice() {
         return Some(Workload::TapeHeld);
+    }
+    if name == b"choose".as_slice() {
+        return Some(Workload::Choose);
     }
     None
 }

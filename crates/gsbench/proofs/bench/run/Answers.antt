@@ -46,3 +46,7 @@ returns-in-Tape-clause-usage c =
 pub returns-in-TapeHeld-clause-usage : goal.returns-in-TapeHeld-clause-usage
 returns-in-TapeHeld-clause-usage c =
     subst (IsJudgedAs c.args.words.now c.run_held.result) (sym c.in-TapeHeld.is) c.run_held.ensures.usage
+
+pub returns-in-Choose-clause-usage : goal.returns-in-Choose-clause-usage
+returns-in-Choose-clause-usage c =
+    subst (IsJudgedAs c.args.words.now c.run-in-Choose.result) (sym c.in-Choose.is) c.run-in-Choose.ensures.usage
