@@ -54,9 +54,11 @@ WORKLOADS.append(("receive, 1 of 20 lost", ["receive", *FRAME, 20], FRAME[2], No
 TICKS = 60
 WORKLOADS.append((f"read {TICKS} ticks", ["tape", 7, TICKS], None, None))
 WORKLOADS.append(("the same, eight hold", ["tape_held", 7, TICKS], None, None))
-# rows of calls: choices of a session that loses frames
+# rows of calls: choices of a session that loses frames, and calls of one cell by threads together
 WORKLOADS.append(("choose", ["choose"], 1, None))
-COUNTED |= {"choose"}
+for n in [1, 4]:
+    WORKLOADS.append((f"turns of {n}", ["turns", n], n, None))
+COUNTED |= {"choose", "turns of 1", "turns of 4"}
 
 
 def clock():
@@ -147,7 +149,7 @@ def main():
         digits = 2 if name in COUNTED else 0
         rest = f"{peer / 1e6:>10.{digits}f}{best[name] / peer:>8.2f}" if peer else f"{'-':>10}{'-':>8}"
         print(f"{name:<24}{best[name] / 1e6:>10.{digits}f}{rest}")
-    print("messages and choices: millions a second")
+    print("messages, choices and turns: millions a second, of all threads together")
     print("the peer's messages go through the system's sockets, those of gsbench stay in memory")
 
 

@@ -1,5 +1,6 @@
 mod Examples
 pub mod Captures
 pub mod Losses
+pub mod Passes
 pub mod Splits
 pub mod Texts

@@ -1,3 +1,4 @@
+pub mod Calling
 pub mod Checksum
 pub mod Report
 pub mod Ticks

@@ -67,6 +67,10 @@ tape_limits = any_number ∷ from_to 1 2000 ∷ any_count ∷ []
 abbrev pub choose_limits : List Limits
 choose_limits = from_to 1 most_frame ∷ []
 
+-- threads that call one cell
+abbrev pub turns_limits : List Limits
+turns_limits = from_to 1 16 ∷ any_count ∷ []
+
 -- the first word, no bytes where there is none
 abbrev pub first_word : List (String Global) → List ℕ
 first_word words = option_map_or string_bytes (slice_get words 0) []
@@ -84,7 +88,8 @@ workload_named name =
     else (if pointwise nat_eq name (codes "tape") then Some workload.Tape
     else (if pointwise nat_eq name (codes "tape_held") then Some workload.TapeHeld
     else (if pointwise nat_eq name (codes "choose") then Some workload.Choose
-    else None)))))))))
+    else (if pointwise nat_eq name (codes "turns") then Some workload.Turns
+    else None))))))))))
 
 -- what the words of a workload are to be
 abbrev pub limits_of : List (String Global) → Workload → List Limits
@@ -98,6 +103,7 @@ limits_of words workload.Split = split_limits
 limits_of words workload.Tape = tape_limits
 limits_of words workload.TapeHeld = tape_limits
 limits_of words workload.Choose = choose_limits
+limits_of words workload.Turns = turns_limits
 
 -- the number, from 1, of the first word that doesn't fit or is missing: the first one where it names no workload
 abbrev pub misfit_at : List (String Global) → Option Workload → Option ℕ

@@ -5,8 +5,10 @@ ghost use Rattle.gsbench.specs.Workloads.{IsJudged, IsJudgedBy, first_word, limi
 
 use crate::report::{Report, Stop};
 use crate::workload::{Workload, workload_named};
-use crate::{choose, codes, frames, messages, receive, rows, tape};
+use crate::{choose, codes, frames, messages, receive, rows, tape, turns};
 use std::alloc::Global;
+use std::sync::Wait;
+use std::thread::Threads;
 
 // The first word, no bytes where there is none.
 fn first_word(words: &[String]) -> &[u8]
@@ -19,7 +21,12 @@ fn first_word(words: &[String]) -> &[u8]
 }
 
 // Runs a workload.
-fn run(alloc: Global, workload: Workload, words: &[String]) -> Result<Report, Stop>
+fn run<R: Threads + Wait + Sync>(
+    rt: &R,
+    alloc: Global,
+    workload: Workload,
+    words: &[String],
+) -> Result<Report, Stop>
     ensures usage { IsJudged (limits_of words.now workload) words.now result }
     ensures amount { IfOk result (λ report. 0 < report.amount) }
 {
@@ -34,24 +41,34 @@ fn run(alloc: Global, workload: Workload, words: &[String]) -> Result<Report, St
         Workload::Tape => tape::run(alloc, words),
         Workload::TapeHeld => tape::run_held(alloc, words),
         Workload::Choose => choose::run(alloc, words),
+        Workload::Turns => turns::run(rt, alloc, words),
     }
 }
 
 // Runs the workload that was named, if one was.
-fn run_named(alloc: Global, workload: Option<Workload>, words: &[String]) -> Result<Report, Stop>
+fn run_named<R: Threads + Wait + Sync>(
+    rt: &R,
+    alloc: Global,
+    workload: Option<Workload>,
+    words: &[String],
+) -> Result<Report, Stop>
     ensures usage { IsJudgedBy (misfit_at words.now workload) result }
     ensures amount { IfOk result (λ report. 0 < report.amount) }
 {
     match workload {
-        Some(workload) => run(alloc, workload, words),
+        Some(workload) => run(rt, alloc, workload, words),
         None => Err(Stop::Usage { word: 1 }),
     }
 }
 
 /// Runs the workload that the first word names.
-pub fn bench(alloc: Global, words: &[String]) -> Result<Report, Stop>
+pub fn bench<R: Threads + Wait + Sync>(
+    rt: &R,
+    alloc: Global,
+    words: &[String],
+) -> Result<Report, Stop>
     ensures usage { IsJudgedBy (misfit words.now) result }
     ensures amount { IfOk result (λ report. 0 < report.amount) }
 {
-    run_named(alloc, workload_named(first_word(words)), words)
+    run_named(rt, alloc, workload_named(first_word(words)), words)
 }

@@ -12,6 +12,7 @@
 //! | `choose COUNT` | chooses a unit of a tick for a session, which has lost its last three frames each time that 30 were sent |
 //! | `tape N T COUNT` | reads the capture file of the T ticks that N generates, which is written to memory once |
 //! | `tape_held N T COUNT` | the same, and each tick is handed to eight holders |
+//! | `turns THREADS COUNT` | calls one cell in turns, on each of THREADS threads |
 //!
 //! It prints one line: a checksum of what the last turn left (FNV-1a of 32 bits), and how many bytes of
 //! data were gone through, or how many calls were made where each is small. So the time that it takes is that
@@ -34,6 +35,7 @@ mod sample;
 mod settings;
 mod shared;
 mod tape;
+mod turns;
 mod words;
 mod workload;
 
@@ -43,7 +45,7 @@ use std::{env, io};
 
 fn main(rt: HostRuntime) -> io::Result<ExitCode> {
     let words = env::args(&rt)?.skip(1).collect::<Vec<String>>(rt.alloc())?;
-    match bench(rt.alloc(), &words) {
+    match bench(&rt, rt.alloc(), &words) {
         Ok(report) => {
             println!(rt; "{report}")?;
             Ok(ExitCode::from(0))

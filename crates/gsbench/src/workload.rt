@@ -15,6 +15,7 @@ pub enum Workload {
     Tape,
     TapeHeld,
     Choose,
+    Turns,
 }
 
 /// The workload of a name.
@@ -50,6 +51,9 @@ pub fn workload_named(name: &[u8]) -> Option<Workload>
     }
     if name == b"choose".as_slice() {
         return Some(Workload::Choose);
+    }
+    if name == b"turns".as_slice() {
+        return Some(Workload::Turns);
     }
     None
 }

@@ -4,6 +4,6 @@ use Rattle.gsbench.specs.Workloads.{IsJudgedBy, misfit_at, workload_named}
 use Rattle.gsbench.proofs.bench.bench.Goals as goal
 
 pub returns-clause-usage : goal.returns-clause-usage
-returns-clause-usage c =
+returns-clause-usage g c =
     let At : Option Workload → Type 0 = λ o. IsJudgedBy (misfit_at c.args.words.now o) c.run_named.result in
     subst At (c.workload_named.ensures ∙ ap workload_named c.first_word.ensures) c.run_named.ensures.usage

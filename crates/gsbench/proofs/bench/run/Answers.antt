@@ -12,41 +12,45 @@ abbrev IsJudgedAs : List (String Global) → Result Report Stop → Workload →
 IsJudgedAs words result workload = IsJudged (limits_of words workload) words result
 
 pub returns-in-MulAdd-clause-usage : goal.returns-in-MulAdd-clause-usage
-returns-in-MulAdd-clause-usage c =
+returns-in-MulAdd-clause-usage g c =
     subst (IsJudgedAs c.args.words.now c.run.result) (sym c.in-MulAdd.is) c.run.ensures.usage
 
 pub returns-in-Encode-clause-usage : goal.returns-in-Encode-clause-usage
-returns-in-Encode-clause-usage c =
+returns-in-Encode-clause-usage g c =
     subst (IsJudgedAs c.args.words.now c.run_encode.result) (sym c.in-Encode.is) c.run_encode.ensures.usage
 
 pub returns-in-Parity-clause-usage : goal.returns-in-Parity-clause-usage
-returns-in-Parity-clause-usage c =
+returns-in-Parity-clause-usage g c =
     subst (IsJudgedAs c.args.words.now c.run_parity.result) (sym c.in-Parity.is) c.run_parity.ensures.usage
 
 pub returns-in-Restore-clause-usage : goal.returns-in-Restore-clause-usage
-returns-in-Restore-clause-usage c =
+returns-in-Restore-clause-usage g c =
     subst (IsJudgedAs c.args.words.now c.run_restore.result) (sym c.in-Restore.is) c.run_restore.ensures.usage
 
 pub returns-in-Messages-clause-usage : goal.returns-in-Messages-clause-usage
-returns-in-Messages-clause-usage c =
+returns-in-Messages-clause-usage g c =
     subst (IsJudgedAs c.args.words.now c.run-in-Messages.result) (sym c.in-Messages.is) c.run-in-Messages.ensures.usage
 
 pub returns-in-Receive-clause-usage : goal.returns-in-Receive-clause-usage
-returns-in-Receive-clause-usage c =
+returns-in-Receive-clause-usage g c =
     subst (IsJudgedAs c.args.words.now c.run-in-Receive.result) (sym c.in-Receive.is) c.run-in-Receive.ensures.usage
 
 pub returns-in-Split-clause-usage : goal.returns-in-Split-clause-usage
-returns-in-Split-clause-usage c =
+returns-in-Split-clause-usage g c =
     subst (IsJudgedAs c.args.words.now c.run_split.result) (sym c.in-Split.is) c.run_split.ensures.usage
 
 pub returns-in-Tape-clause-usage : goal.returns-in-Tape-clause-usage
-returns-in-Tape-clause-usage c =
+returns-in-Tape-clause-usage g c =
     subst (IsJudgedAs c.args.words.now c.run-in-Tape.result) (sym c.in-Tape.is) c.run-in-Tape.ensures.usage
 
 pub returns-in-TapeHeld-clause-usage : goal.returns-in-TapeHeld-clause-usage
-returns-in-TapeHeld-clause-usage c =
+returns-in-TapeHeld-clause-usage g c =
     subst (IsJudgedAs c.args.words.now c.run_held.result) (sym c.in-TapeHeld.is) c.run_held.ensures.usage
 
 pub returns-in-Choose-clause-usage : goal.returns-in-Choose-clause-usage
-returns-in-Choose-clause-usage c =
+returns-in-Choose-clause-usage g c =
     subst (IsJudgedAs c.args.words.now c.run-in-Choose.result) (sym c.in-Choose.is) c.run-in-Choose.ensures.usage
+
+pub returns-in-Turns-clause-usage : goal.returns-in-Turns-clause-usage
+returns-in-Turns-clause-usage g c =
+    subst (IsJudgedAs c.args.words.now c.run-in-Turns.result) (sym c.in-Turns.is) c.run-in-Turns.ensures.usage

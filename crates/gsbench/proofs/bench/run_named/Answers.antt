@@ -5,6 +5,6 @@ use Rattle.gsbench.specs.Workloads.{IsJudgedBy, misfit_at}
 use Rattle.gsbench.proofs.bench.run_named.Goals as goal
 
 pub returns-in-Some-clause-usage : goal.returns-in-Some-clause-usage
-returns-in-Some-clause-usage c =
+returns-in-Some-clause-usage g c =
     let At : Option Workload → Type 0 = λ o. IsJudgedBy (misfit_at c.args.words.now o) c.run.result in
     subst At (sym c.in-Some.is) c.run.ensures.usage
