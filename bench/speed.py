@@ -54,11 +54,13 @@ WORKLOADS.append(("receive, 1 of 20 lost", ["receive", *FRAME, 20], FRAME[2], No
 TICKS = 60
 WORKLOADS.append((f"read {TICKS} ticks", ["tape", 7, TICKS], None, None))
 WORKLOADS.append(("the same, eight hold", ["tape_held", 7, TICKS], None, None))
-# rows of calls: choices of a session that loses frames, and calls of one cell by threads together
+# rows of calls: choices of a session that loses frames; calls of one cell and reads of one capture, by threads together
 WORKLOADS.append(("choose", ["choose"], 1, None))
 for n in [1, 4]:
     WORKLOADS.append((f"turns of {n}", ["turns", n], n, None))
-COUNTED |= {"choose", "turns of 1", "turns of 4"}
+for n in [1, 4]:
+    WORKLOADS.append((f"views of {n}", ["views", n], n, None))
+COUNTED |= {"choose", "turns of 1", "turns of 4", "views of 1", "views of 4"}
 
 
 def clock():
@@ -149,7 +151,7 @@ def main():
         digits = 2 if name in COUNTED else 0
         rest = f"{peer / 1e6:>10.{digits}f}{best[name] / peer:>8.2f}" if peer else f"{'-':>10}{'-':>8}"
         print(f"{name:<24}{best[name] / 1e6:>10.{digits}f}{rest}")
-    print("messages, choices and turns: millions a second, of all threads together")
+    print("messages, choices, turns and views: millions a second, of all threads together")
     print("the peer's messages go through the system's sockets, those of gsbench stay in memory")
 
 

@@ -71,6 +71,10 @@ choose_limits = from_to 1 most_frame ∷ []
 abbrev pub turns_limits : List Limits
 turns_limits = from_to 1 16 ∷ any_count ∷ []
 
+-- viewers that read one capture
+abbrev pub views_limits : List Limits
+views_limits = from_to 1 16 ∷ any_count ∷ []
+
 -- the first word, no bytes where there is none
 abbrev pub first_word : List (String Global) → List ℕ
 first_word words = option_map_or string_bytes (slice_get words 0) []
@@ -89,7 +93,8 @@ workload_named name =
     else (if pointwise nat_eq name (codes "tape_held") then Some workload.TapeHeld
     else (if pointwise nat_eq name (codes "choose") then Some workload.Choose
     else (if pointwise nat_eq name (codes "turns") then Some workload.Turns
-    else None))))))))))
+    else (if pointwise nat_eq name (codes "views") then Some workload.Views
+    else None)))))))))))
 
 -- what the words of a workload are to be
 abbrev pub limits_of : List (String Global) → Workload → List Limits
@@ -104,6 +109,7 @@ limits_of words workload.Tape = tape_limits
 limits_of words workload.TapeHeld = tape_limits
 limits_of words workload.Choose = choose_limits
 limits_of words workload.Turns = turns_limits
+limits_of words workload.Views = views_limits
 
 -- the number, from 1, of the first word that doesn't fit or is missing: the first one where it names no workload
 abbrev pub misfit_at : List (String Global) → Option Workload → Option ℕ

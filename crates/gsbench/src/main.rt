@@ -13,6 +13,7 @@
 //! | `tape N T COUNT` | reads the capture file of the T ticks that N generates, which is written to memory once |
 //! | `tape_held N T COUNT` | the same, and each tick is handed to eight holders |
 //! | `turns THREADS COUNT` | calls one cell in turns, on each of THREADS threads |
+//! | `views VIEWERS COUNT` | reads a tick of a capture of 1,000 ticks, on each of VIEWERS threads |
 //!
 //! It prints one line: a checksum of what the last turn left (FNV-1a of 32 bits), and how many bytes of
 //! data were gone through, or how many calls were made where each is small. So the time that it takes is that
@@ -36,6 +37,7 @@ mod settings;
 mod shared;
 mod tape;
 mod turns;
+mod views;
 mod words;
 mod workload;
 

@@ -16,6 +16,7 @@ pub enum Workload {
     TapeHeld,
     Choose,
     Turns,
+    Views,
 }
 
 /// The workload of a name.
@@ -54,6 +55,9 @@ pub fn workload_named(name: &[u8]) -> Option<Workload>
     }
     if name == b"turns".as_slice() {
         return Some(Workload::Turns);
+    }
+    if name == b"views".as_slice() {
+        return Some(Workload::Views);
     }
     None
 }

@@ -54,3 +54,7 @@ returns-in-Choose-clause-usage g c =
 pub returns-in-Turns-clause-usage : goal.returns-in-Turns-clause-usage
 returns-in-Turns-clause-usage g c =
     subst (IsJudgedAs c.args.words.now c.run-in-Turns.result) (sym c.in-Turns.is) c.run-in-Turns.ensures.usage
+
+pub returns-in-Views-clause-usage : goal.returns-in-Views-clause-usage
+returns-in-Views-clause-usage g c =
+    subst (IsJudgedAs c.args.words.now c.run-in-Views.result) (sym c.in-Views.is) c.run-in-Views.ensures.usage
