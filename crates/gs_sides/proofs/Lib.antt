@@ -4,3 +4,4 @@ pub mod Storing
 pub mod Naming
 pub mod Tellings
 pub mod Standings
+pub mod Asked

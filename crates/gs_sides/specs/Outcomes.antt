@@ -1,5 +1,5 @@
 -- What a call of a side did, over a side that the value stood for.
-use Rattle.std.specs.Prelude.{◌≡◌, ◌≢◌, ℕ, ◌-◌, ◌++◌, Bool, true, false, List, [], Result, Ok, Err, slice_get}
+use Rattle.std.specs.Prelude.{◌≡◌, ◌≢◌, ℕ, ◌-◌, ◌++◌, Bool, true, false, List, [], take, drop, Result, Ok, Err, slice_get}
 use Rattle.gs_enet.specs.declared.event.PeerEvent.{PeerEvent}
 use Rattle.gs_enet.specs.declared.send_error.SendError.{SendError}
 use Rattle.gs_enet.specs.declared.send_error.SendError.TheVariants.{NotOpen, WindowFull, OutOfMemory}
@@ -8,6 +8,8 @@ use Rattle.gs_enet.specs.Steps.{is_open, is_full, can_send, next_number}
 use Rattle.gs_enet.specs.Write.{going_out, next_items}
 use Rattle.gs_enet.specs.World.{Side, Send, Write, acted, came}
 use Rattle.gs_enet.specs.Sides.{all_told}
+use Rattle.gs_client_core.specs.declared.asker.Owed.{Owed}
+use Rattle.gs_client_core.specs.Owed.{going, all_asked}
 use Rattle.gs_store.specs.Named.{is_nameable}
 use Rattle.gs_sides.specs.declared.side.ControlSide.{ControlSide}
 use Rattle.gs_sides.specs.Standing.{StandsFor}
@@ -29,6 +31,12 @@ Sends x channel bytes (Err NotOpen) new = (is_open x.peer.state ≡ false) × St
 Sends x channel bytes (Err WindowFull) new = (is_open x.peer.state ≡ true) × (is_full x.peer channel ≡ true)
     × StandsFor new x
 Sends x channel bytes (Err OutOfMemory) new = (can_send x.peer channel ≡ true) × StandsFor new x
+
+-- What is owed was given, in order, as far as the side takes it: so many went, and these stay owed.
+pub record GivesOwed (x : Side) (owed stays : List Owed) (count : ℕ) (new : ControlSide) : Type 0 where
+  pub count_is : count ≡ going x.peer owed
+  pub stays_are : stays ≡ drop count owed
+  pub stands : StandsFor new (record x { peer = all_asked (take count owed) x.peer })
 
 -- ---- datagrams
 

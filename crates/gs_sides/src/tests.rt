@@ -1,4 +1,5 @@
 use crate::ControlSide;
+use gs_client_core::Asker;
 use gs_enet::PeerEvent;
 use std::alloc::Global;
 use std::test::Fail;
@@ -34,6 +35,17 @@ fn a_message_comes_as_it_was_sent(rt: HostRuntime) -> Result<(), Fail> {
     assert_eq!(rt; bytes.as_bytes(), b"ask".as_slice());
     client.close();
     assert!(rt; !client.is_open());
+    Ok(())
+}
+
+#[test]
+fn what_is_owed_is_given(rt: HostRuntime) -> Result<(), Fail> {
+    let (mut client, _host) = opened(rt.alloc())?;
+    let mut asker = Asker::new(rt.alloc());
+    asker.owe_idr()?;
+    assert_eq!(rt; client.give_owed(&mut asker)?, 1);
+    assert_eq!(rt; client.given(1), 1);
+    assert_eq!(rt; client.give_owed(&mut asker)?, 0);
     Ok(())
 }
 
