@@ -1,0 +1,7 @@
+pub mod Packets
+pub mod Messages
+pub mod Boxes
+pub mod Acting
+pub mod Listening
+pub mod Standing
+pub mod Turning

@@ -1,0 +1,7 @@
+pub mod Acts
+pub mod Counts
+pub mod Boxes
+pub mod Heard
+pub mod Sending
+pub mod Standing
+pub mod Outcomes
