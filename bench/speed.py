@@ -50,6 +50,7 @@ FRAME = [1392, 20, 41_000]
 WORKLOADS.append(("split", ["split", *FRAME], FRAME[2], None))
 WORKLOADS.append(("receive", ["receive", *FRAME, 0], FRAME[2], None))
 WORKLOADS.append(("receive, 1 of 20 lost", ["receive", *FRAME, 20], FRAME[2], None))
+WORKLOADS.append(("take", ["take", FRAME[2]], FRAME[2], None))
 # a capture file of generated ticks, read from memory, where its ticks are dropped, and where eight hold each
 TICKS = 60
 WORKLOADS.append((f"read {TICKS} ticks", ["tape", 7, TICKS], None, None))

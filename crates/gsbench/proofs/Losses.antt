@@ -1,5 +1,5 @@
 -- A range of lost frames leaves the number of frames that were sent.
-use Rattle.std.proofs.Common.{◌≡◌, ◌∷◌, List, ℕ, true, false, inl, inr, ap, ◌∙◌, refl}
+use Rattle.std.proofs.Common.{◌≡◌, ◌∷◌, List, true, false, inl, inr, ap, ◌∙◌, refl}
 use Rattle.std.specs.Prelude.{ℤ, Bool, if◌then◌else◌, unsigned_abs}
 use Rattle.std.proofs.lemmas.Bool.{cases_Bool}
 use Rattle.gs_refs.specs.declared.entry.Entry.{Entry}

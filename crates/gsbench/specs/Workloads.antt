@@ -1,5 +1,5 @@
 -- The workloads: the words of each behind its name, and when an answer blames one.
-use Rattle.std.specs.Prelude.{◌≡◌, ◌≢◌, ◌⊎◌, ◌↔◌, ◌+◌, ◌-◌, ◌^◌, ℕ, List, [], ◌∷◌, Option, Some, None, Result, Err, String, string_bytes, codes, if◌then◌else◌, min, nat_eq}
+use Rattle.std.specs.Prelude.{◌≡◌, ◌≢◌, ◌⊎◌, ◌↔◌, ◌-◌, ◌^◌, ℕ, List, [], ◌∷◌, Option, Some, None, Result, Err, String, string_bytes, codes, if◌then◌else◌, min, nat_eq}
 use Rattle.std.specs.Cmp.Lexicographic.{pointwise}
 use Rattle.std.specs.List.{slice_get}
 use Rattle.std.specs.Option.{option_map_or}
@@ -75,6 +75,10 @@ turns_limits = from_to 1 16 ∷ any_count ∷ []
 abbrev pub views_limits : List Limits
 views_limits = from_to 1 16 ∷ any_count ∷ []
 
+-- the bytes of a frame; a turn is a frame's number
+abbrev pub take_limits : List Limits
+take_limits = from_to 1 most_unit ∷ from_to 1 most_frame ∷ []
+
 -- the first word, no bytes where there is none
 abbrev pub first_word : List (String Global) → List ℕ
 first_word words = option_map_or string_bytes (slice_get words 0) []
@@ -94,7 +98,8 @@ workload_named name =
     else (if pointwise nat_eq name (codes "choose") then Some workload.Choose
     else (if pointwise nat_eq name (codes "turns") then Some workload.Turns
     else (if pointwise nat_eq name (codes "views") then Some workload.Views
-    else None)))))))))))
+    else (if pointwise nat_eq name (codes "take") then Some workload.Take
+    else None))))))))))))
 
 -- what the words of a workload are to be
 abbrev pub limits_of : List (String Global) → Workload → List Limits
@@ -110,6 +115,7 @@ limits_of words workload.TapeHeld = tape_limits
 limits_of words workload.Choose = choose_limits
 limits_of words workload.Turns = turns_limits
 limits_of words workload.Views = views_limits
+limits_of words workload.Take = take_limits
 
 -- the number, from 1, of the first word that doesn't fit or is missing: the first one where it names no workload
 abbrev pub misfit_at : List (String Global) → Option Workload → Option ℕ

@@ -5,7 +5,7 @@ ghost use Rattle.gsbench.specs.Workloads.{IsJudged, IsJudgedBy, first_word, limi
 
 use crate::report::{Report, Stop};
 use crate::workload::{Workload, workload_named};
-use crate::{choose, codes, frames, messages, receive, rows, tape, turns, views};
+use crate::{choose, codes, frames, messages, receive, rows, take, tape, turns, views};
 use std::alloc::Global;
 use std::sync::Wait;
 use std::thread::Threads;
@@ -43,6 +43,7 @@ fn run<R: Threads + Wait + Sync>(
         Workload::Choose => choose::run(alloc, words),
         Workload::Turns => turns::run(rt, alloc, words),
         Workload::Views => views::run(rt, alloc, words),
+        Workload::Take => take::run(alloc, words),
     }
 }
 

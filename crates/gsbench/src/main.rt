@@ -14,6 +14,7 @@
 //! | `tape_held N T COUNT` | the same, and each tick is handed to eight holders |
 //! | `turns THREADS COUNT` | calls one cell in turns, on each of THREADS threads |
 //! | `views VIEWERS COUNT` | reads a tick of a capture of 1,000 ticks, on each of VIEWERS threads |
+//! | `take LEN COUNT` | takes the datagrams of a frame of LEN bytes with a client's core, which gives the unit |
 //!
 //! It prints one line: a checksum of what the last turn left (FNV-1a of 32 bits), and how many bytes of
 //! data were gone through, or how many calls were made where each is small. So the time that it takes is that
@@ -35,6 +36,7 @@ mod rows;
 mod sample;
 mod settings;
 mod shared;
+mod take;
 mod tape;
 mod turns;
 mod views;

@@ -1,5 +1,5 @@
 // Messages between two peers of one connection, which are joined in memory.
-ghost use Rattle.std.specs.Prelude.{◌≡◌, ◌<◌, IfErr, IfOk};
+ghost use Rattle.std.specs.Prelude.{◌<◌, IfErr, IfOk};
 ghost use Rattle.gsbench.specs.Report.{IsNoUsage};
 ghost use Rattle.gsbench.specs.Workloads.{IsJudged, messages_limits};
 

@@ -53,8 +53,8 @@ pub fn run(alloc: Global, words: &[String]) -> Result<Report, Stop>
     })
 }
 
-// The datagrams of the loaded frame.
-fn datagrams_of(
+/// The datagrams of the loaded frame.
+pub fn datagrams_of(
     alloc: Global,
     splitter: &mut Splitter,
     number: u32,
@@ -103,7 +103,8 @@ fn receive_often(
     last
 }
 
-fn set_frame(datagram: &mut [u8], frame: u32)
+/// Writes the number of the frame into its datagram.
+pub fn set_frame(datagram: &mut [u8], frame: u32)
     ensures { length datagram.new ≡ length datagram.old }
 {
     if datagram.len() >= VIDEO_HEADER_LENGTH {

@@ -17,6 +17,7 @@ pub enum Workload {
     Choose,
     Turns,
     Views,
+    Take,
 }
 
 /// The workload of a name.
@@ -58,6 +59,9 @@ pub fn workload_named(name: &[u8]) -> Option<Workload>
     }
     if name == b"views".as_slice() {
         return Some(Workload::Views);
+    }
+    if name == b"take".as_slice() {
+        return Some(Workload::Take);
     }
     None
 }

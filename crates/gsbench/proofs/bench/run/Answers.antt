@@ -58,3 +58,7 @@ returns-in-Turns-clause-usage g c =
 pub returns-in-Views-clause-usage : goal.returns-in-Views-clause-usage
 returns-in-Views-clause-usage g c =
     subst (IsJudgedAs c.args.words.now c.run-in-Views.result) (sym c.in-Views.is) c.run-in-Views.ensures.usage
+
+pub returns-in-Take-clause-usage : goal.returns-in-Take-clause-usage
+returns-in-Take-clause-usage g c =
+    subst (IsJudgedAs c.args.words.now c.run-in-Take.result) (sym c.in-Take.is) c.run-in-Take.ensures.usage

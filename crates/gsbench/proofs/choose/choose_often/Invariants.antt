@@ -1,5 +1,5 @@
 -- as many frames were sent as the number of the last tick
-use Rattle.std.proofs.Common.{◌≡◌, ◌+◌, ◌≤◌}
+use Rattle.std.proofs.Common.{◌≡◌, ◌+◌}
 use Rattle.gs_refs.specs.History.{frames}
 use Rattle.gsbench.proofs.choose.choose_often.Given as goal
 

@@ -1,4 +1,4 @@
-use Rattle.std.proofs.Common.{◌≡◌, ◌≤◌, List, arith, ap, subst, sym}
+use Rattle.std.proofs.Common.{◌≤◌, List, arith, subst, sym}
 use Rattle.std.specs.List.{sum_by}
 use Rattle.gs_tape.specs.Limits.{most_bytes}
 use Rattle.gs_tape.specs.Tick.{Tick, unit_bytes}
