@@ -1,10 +1,4 @@
-pub mod Schedule
-pub mod Output
-pub mod Run
-pub mod Forms
-pub mod Words
-pub mod Trial
 pub mod Standing
-pub mod Status
-pub mod Counting
-pub mod RunLaws
+pub mod Stepping
+pub mod Running
+pub mod Trial

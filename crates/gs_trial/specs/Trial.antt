@@ -1,80 +1,85 @@
--- What a trial promises of its inputs and its output. What an object doesn't tell is `None`.
-use Rattle.std.specs.Prelude.{ℕ, ◌≡◌, ◌+◌, ◌≤◌, Bool, false, List, [], ◌∷◌, length, map, Option}
-use Rattle.std.specs.Io.KnownBytes.{Appends, Consumes, IsAtEnd}
-use Rattle.std.specs.List.{All, AllByRecursion}
-use Rattle.gs_bytes.specs.Outside.{AppendsPart, SetsFlag}
-use Rattle.gs_bytes.specs.Told.{Told}
-use Rattle.gs_refs.specs.History.{has_ended}
-use Rattle.gs_frames.specs.Client.{datagrams}
-use Rattle.gs_frames.specs.Narrow.{narrow, narrow_handed}
-use Rattle.gs_stream.specs.HandedLaws.{IsHostHistory, IsSentFrame}
-use Rattle.gs_stream.specs.Paired.{IsPaired}
-use Rattle.gs_pair.specs.References.{ReferencesHeld}
-use Rattle.gs_trial.specs.declared.step.Step.{Step}
-use Rattle.gs_trial.specs.Run.{Tape, Session, State, start, tape_of, after, text_of}
-use Rattle.gs_trial.specs.Forms.{most_input, IsBuilt}
+-- What a trial writes and answers. What an object doesn't tell is `None`.
+use Rattle.std.specs.Prelude.{ℕ, ◌≡◌, ◌≢◌, Bool, true, false, List, take, Option, Some, None, Result, Ok, Err}
+use Rattle.std.specs.Prelude.{MatchBool, ⊤}
+use Rattle.std.specs.Io.KnownBytes.{Appends}
+use Rattle.gs_bytes.specs.Outside.{Rose}
+use Rattle.gs_command.specs.declared.command.Detail.{Detail}
+use Rattle.gs_command.specs.declared.command.Detail.TheVariants.{Sums}
+use Rattle.gs_command.specs.declared.command.TrialCommand.{TrialCommand}
+use Rattle.gs_command.specs.declared.command.TrialCommand.TheVariants.{Script, Make, Tape}
+use Rattle.gs_schedule.specs.Lines.{lines_of}
+use Rattle.gs_schedule.specs.declared.status.TrialStatus.{TrialStatus}
+use Rattle.gs_schedule.specs.declared.status.TrialStatus.TheVariants as status
+use Rattle.gs_run.specs.CaptureFile.{file_of}
+use Rattle.gs_run.specs.Run.{Run, IsRun, run_text}
+use Rattle.gs_run.specs.Generated.{IsGeneratedRun, generated_bytes}
 
--- These bytes were read of an input: all that there were, unless they are too many to be run.
-pub record WasRead (before now : Told) (bytes : List ℕ) : Type 0 where
-  pub left : Consumes before.left now.left bytes
-  pub taken : Appends before.taken now.taken bytes
-  pub bound : length bytes ≤ most_input + 1
-  pub at_end : length bytes ≤ most_input → IsAtEnd now.left
-  pub met_end : length bytes ≤ most_input → SetsFlag before.met_end now.met_end
+-- the answers that a run itself gives; the others are of an object that failed, and of want of memory
+abbrev pub is_of_run : TrialStatus → Bool
+is_of_run status.TapeFault = false
+is_of_run status.ScheduleFault = false
+is_of_run status.WriteFault = false
+is_of_run status.OutOfMemory = false
+is_of_run (status.Usage word) = false
+is_of_run _ = true
 
--- an input was read: all of it, unless it is too long to be run
-abbrev pub ReadsWhole : Told → Told → Type 0
-ReadsWhole before now = (bytes : List ℕ) × WasRead before now bytes
+-- a front of a text was written
+abbrev pub WritesFront : Option (List ℕ) → Option (List ℕ) → List ℕ → Type 0
+WritesFront old new text = (n : ℕ) × Appends old new (take n text)
 
--- the state behind all of the steps
-unfoldable pub behind : Tape → State → List Step → State
-behind tape state [] = state
-behind tape state (s ∷ steps) = behind tape (after tape state s) steps
+-- the whole text of a run that ends with this answer was written, or a front of it where the answer isn't the run's
+abbrev pub WritesRun : Detail → Run → Option (List ℕ) → Option (List ℕ) → TrialStatus → Type 0
+WritesRun detail run old new answer =
+    MatchBool (is_of_run answer)
+    ((run.status ≡ answer) × Appends old new (run_text detail run))
+    (WritesFront old new (run_text detail run))
 
--- a session of a run: its history is one that a host may have, what its client was given is paired with
--- it, and nothing ended it
-pub record IsPairedSession (tape : Tape) (session : Session) : Type 0 where
-  pub history : IsHostHistory session.settings tape.ticks session.history
-  pub paired : IsPaired (narrow session.settings) tape.ticks session.history (datagrams session.came)
-  pub goes_on : has_ended session.history ≡ false
+-- the run of a schedule with these bytes over the capture file with these
+pub record AnswersScript (detail : Detail) (tape schedule : List ℕ) (old new : Option (List ℕ)) (answer : TrialStatus)
+    : Type 0 where
+  pub run : Run
+  pub is_run : IsRun (file_of tape) (lines_of schedule) run
+  pub writes : WritesRun detail run old new answer
 
--- each frame that a session's client was handed was sent, and is byte for byte the captured unit of it
-abbrev pub HandsCaptured : Tape → Session → Type 0
-HandsCaptured tape session = All (IsSentFrame tape.ticks session.history) (narrow_handed session.settings session.came)
+abbrev pub AnswersIfTold : Detail → (tape schedule old new : Option (List ℕ)) → TrialStatus → Type 0
+AnswersIfTold detail None schedule old new answer = ⊤
+AnswersIfTold detail (Some tape) None old new answer = ⊤
+AnswersIfTold detail (Some tape) (Some schedule) old new answer = AnswersScript detail tape schedule old new answer
 
--- and each of them that refers to another was handed behind it
-abbrev pub HandsReferences : Tape → Session → Type 0
-HandsReferences tape session = ReferencesHeld session.history
-    (map (λ f. f.frame) (narrow_handed session.settings session.came))
+-- the generated run, of which the sums are written
+pub record AnswersMake (number ticks : ℕ) (old new : Option (List ℕ)) (answer : TrialStatus) : Type 0 where
+  pub run : Run
+  pub is_run : IsGeneratedRun number ticks run
+  pub writes : WritesRun Sums run old new answer
 
--- Both inputs were read, and what they hold is run today; behind all steps each session is paired, and its
--- client was handed captured units alone, each behind the one that it refers to.
-pub record IsTrialRun (tape_before tape_now schedule_before schedule_now : Told) (tape schedule : List ℕ)
-    (steps : List Step) : Type 0 where
-  pub tape_read : WasRead tape_before tape_now tape
-  pub schedule_read : WasRead schedule_before schedule_now schedule
-  pub built : IsBuilt tape schedule steps
-  pub paired : AllByRecursion (IsPairedSession (tape_of tape)) (behind (tape_of tape) start steps).sessions
-  pub captured : AllByRecursion (HandsCaptured (tape_of tape)) (behind (tape_of tape) start steps).sessions
-  pub references : AllByRecursion (HandsReferences (tape_of tape)) (behind (tape_of tape) start steps).sessions
+abbrev pub AnswersTape : ℕ → ℕ → (old new : Option (List ℕ)) → TrialStatus → Type 0
+AnswersTape number ticks old new status.Ok = Appends old new (generated_bytes number ticks)
+AnswersTape number ticks old new _ = WritesFront old new (generated_bytes number ticks)
 
--- the whole text of the run was written
-abbrev pub WritesText : Told → Told → Told → Told → Option (List ℕ) → Option (List ℕ) → Type 0
-WritesText tape_before tape_now schedule_before schedule_now written_before written_now =
-    (tape : List ℕ) × (schedule : List ℕ) × (steps : List Step)
-    × IsTrialRun tape_before tape_now schedule_before schedule_now tape schedule steps
-    × Appends written_before written_now (text_of tape steps)
+abbrev pub Answers : TrialCommand → (tape schedule old new : Option (List ℕ)) → TrialStatus → Type 0
+Answers (Script detail) tape schedule old new answer = AnswersIfTold detail tape schedule old new answer
+Answers (Make generated) tape schedule old new answer = AnswersMake generated.number generated.ticks old new answer
+Answers (Tape generated) tape schedule old new answer = AnswersTape generated.number generated.ticks old new answer
 
--- a part of it, from its front
-abbrev pub WritesPart : Told → Told → Told → Told → Option (List ℕ) → Option (List ℕ) → Type 0
-WritesPart tape_before tape_now schedule_before schedule_now written_before written_now =
-    (tape : List ℕ) × (schedule : List ℕ) × (steps : List Step)
-    × IsTrialRun tape_before tape_now schedule_before schedule_now tape schedule steps
-    × AppendsPart written_before written_now (text_of tape steps)
+-- nothing is read by what generates
+abbrev pub IsGenerating : TrialCommand → Type 0
+IsGenerating (Script detail) = ⊥
+IsGenerating (Make generated) = ⊤
+IsGenerating (Tape generated) = ⊤
 
--- both inputs were read, and what they hold isn't run today
-abbrev pub ReadsOther : Told → Told → Told → Told → Type 0
-ReadsOther tape_before tape_now schedule_before schedule_now =
-    (tape : List ℕ) × (schedule : List ℕ)
-    × WasRead tape_before tape_now tape × WasRead schedule_before schedule_now schedule
-    × ((steps : List Step) → IsBuilt tape schedule steps → ⊥)
+-- ---- how a part of a trial ends
+
+-- An object's count of faults rose where this is the error, and nowhere else.
+abbrev pub CountsFor : TrialStatus → Result ⊤ TrialStatus → ℕ → ℕ → Type 0
+CountsFor cause (Ok done) before now = now ≡ before
+CountsFor cause (Err e) before now = (e ≡ cause → Rose before now) × (now ≢ before → e ≡ cause)
+
+-- an error is neither of the words nor of a whole run
+abbrev pub IsCause : TrialStatus → Type 0
+IsCause status.Ok = ⊥
+IsCause (status.Usage word) = ⊥
+IsCause _ = ⊤
+
+abbrev pub answer_of : Result ⊤ TrialStatus → TrialStatus
+answer_of (Ok done) = status.Ok
+answer_of (Err e) = e

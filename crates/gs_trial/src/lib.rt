@@ -1,42 +1,32 @@
-//! Trials: a host and its client, run over a given schedule of losses.
+//! Trials: a host and its client for each session, run over a given schedule of losses.
 //!
-//! A capture file gives the units that are streamed, a schedule which steps are taken: a tick is
-//! captured, the sender sends, a datagram is delivered. What the run does is written as text, one line
-//! an event: the frames that were sent, each frame that the client's decoder is handed with its bytes,
-//! and the ranges of lost frames that the client asks the host to mend. The video datagrams are those
-//! of GameStream: RTP (RFC 3550) with Reed-Solomon parity.
+//! A capture file gives what is streamed, a schedule what is done: a tick is captured, a host sends, a datagram is
+//! delivered, once, late, several times or never, the user does something, time passes. What happens is written as text,
+//! one line an event: the frames that were sent, each frame that a client's decoder is handed with its bytes, each audio
+//! unit that is played, the ranges of lost frames that a client asks its host to mend, the input that a host is told.
 //!
-//! The contract of `trial_main` promises of capture files without audio and deltas whose IDR units have
-//! at most 1,000 bytes, and of schedules of one session without parity, both of at most 65,536 bytes:
-//!
-//! - at `Ok` what was written is the text that the definition of a run gives for the bytes of both
-//!   inputs, which were read to their end; its sessions are paired, and each frame that the client was
-//!   handed is byte for byte the captured unit of that frame and comes behind the frame that it refers to;
-//! - each other answer comes where its cause says, and what was written by then is the text's front;
-//! - any other input is `Later`, with nothing written.
-//!
-//! More is known of the definition of a run: `runs_are_paired`, `runs_hand_captured_units` and
-//! `runs_hand_references` are laws about every run of it, also one that is `Later` today, over any capture
-//! file whose head is in order.
+//! The contract of `trial_main` is the run of a schedule over a capture file (`IsRun` of `gs_run`): at `Ok`, and at each
+//! answer that the run itself gives, what was written is the run's text (`run_text`); at any other answer it is a front of
+//! it. What is known of every run is a law of `gs_run`.
 #![tactic(auto)]
 
-mod client;
-mod form;
-mod host;
-mod laws;
-mod output;
-mod schedule;
-mod session;
-mod status;
+mod error;
+mod generated_steps;
+mod generating;
+mod lines;
+mod opening;
+mod running;
+mod script;
+mod sessions;
 mod step;
-mod tape;
+mod steps;
+mod timing;
+mod top;
 mod trial;
-mod words;
 
-pub use laws::{runs_are_paired, runs_hand_captured_units, runs_hand_references};
-pub use status::TrialStatus;
-pub use step::Step;
-pub use trial::trial_main;
+pub use gs_command::{Detail, TrialCommand, read_command};
+pub use gs_schedule::TrialStatus;
+pub use top::trial_main;
 
 #[cfg(test)]
 mod tests;

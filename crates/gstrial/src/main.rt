@@ -1,18 +1,18 @@
-//! The trial program: `gstrial script bytes TAPE SCHEDULE`.
+//! The trial program: `gstrial script bytes|brief TAPE SCHEDULE`, `gstrial make N T`, `gstrial tape N T`.
 //!
-//! It runs a host and its client over the losses that a schedule gives, streams the units of a capture
-//! file, and writes on standard output what they did. A run that ends otherwise than `ok` says why on
-//! standard error, one line, and with its exit status. What the text is, and when each answer comes, is
-//! the contract of `gs_trial::trial_main`; this crate only opens the files and prints.
+//! It runs a host and its client for each session over the losses that a schedule gives, streams the units of a capture
+//! file, and writes on standard output what they did. A run that ends otherwise than `ok` says why on standard error,
+//! one line, and with its exit status. What the text is, and when each answer comes, is the contract of
+//! `gs_trial::trial_main`; this crate only judges the words, opens the files and prints.
 #![tactic(auto)]
 
 ghost use Rattle.std.specs.declared.io.ErrorKind.TheVariants as kinds;
 ghost use Rattle.std.specs.Prelude.{◌≡◌, ◌≢◌, ◌⊎◌, ◌↔◌, ℕ, Some, IfErr, drop, map, string_bytes};
-ghost use Rattle.gs_trial.specs.Words.{first_misfit};
-ghost use Rattle.gstrial.specs.Program.{exit_status as status_of, tape_name as tape_named, schedule_name as schedule_named, word_at as word_of};
+ghost use Rattle.gs_command.specs.Words.{first_misfit};
+ghost use Rattle.gstrial.specs.Program.{tape_name as tape_named, schedule_name as schedule_named, word_at as word_of};
 
 use gs_net::{FileSource, OutSink};
-use gs_trial::{TrialStatus, trial_main};
+use gs_trial::{TrialCommand, TrialStatus, read_command, trial_main};
 use std::process::ExitCode;
 use std::{env, io};
 
@@ -21,20 +21,8 @@ const TAPE_PLACE: usize = 2;
 
 const SCHEDULE_PLACE: usize = 3;
 
-/// The exit status of an answer.
-fn exit_status(status: TrialStatus) -> u8
-    ensures { result ≡ status_of status }
-{
-    match status {
-        TrialStatus::Ok => 0,
-        TrialStatus::Usage { .. } => 2,
-        TrialStatus::TapeFault => 3,
-        TrialStatus::ScheduleFault => 8,
-        TrialStatus::WriteFault => 10,
-        TrialStatus::Later => 11,
-        TrialStatus::OutOfMemory => 12,
-    }
-}
+/// The name of the files of what is generated, which reads none.
+const NO_FILE: &str = "";
 
 /// The word at a place, empty where there is none.
 fn word_at(words: &[String], place: usize) -> &str
@@ -103,13 +91,25 @@ fn command_words(rt: &HostRuntime) -> Result<Vec<String>, TrialStatus>
 
 /// Runs the trial that the words name, and answers what `trial_main` answers of the capture file and
 /// the schedule that they name and of standard output. `Usage` comes exactly where a word doesn't fit
-/// or is missing. What a file holds and whether a call of the system fails no contract can say, so the
-/// other answers are those of `trial_main`'s contract over what these objects tell.
+/// or is missing, and before any file is opened. What a file holds and whether a call of the system
+/// fails no contract can say, so the other answers are those of `trial_main`'s contract over what
+/// these objects tell.
 fn run(rt: &HostRuntime, words: &[String]) -> TrialStatus
     ensures usage { (word : ℕ) → (result ≡ TrialStatus.Usage word) ↔ (first_misfit (map string_bytes words.now) ≡ Some word) }
 {
-    let mut tape = FileSource::open(rt, tape_name(words));
-    let mut schedule = FileSource::open(rt, schedule_name(words));
+    match read_command(words) {
+        Err(word) => TrialStatus::Usage { word },
+        Ok(TrialCommand::Script(_)) => run_over(rt, words, tape_name(words), schedule_name(words)),
+        Ok(_) => run_over(rt, words, NO_FILE, NO_FILE),
+    }
+}
+
+/// Runs the trial over the files of these names.
+fn run_over(rt: &HostRuntime, words: &[String], tape: &str, schedule: &str) -> TrialStatus
+    ensures usage { (word : ℕ) → (result ≡ TrialStatus.Usage word) ↔ (first_misfit (map string_bytes words.now) ≡ Some word) }
+{
+    let mut tape = FileSource::open(rt, tape);
+    let mut schedule = FileSource::open(rt, schedule);
     let mut out = OutSink::new(rt.stdout());
     trial_main(rt.alloc(), words, &mut tape, &mut schedule, &mut out)
 }
@@ -123,5 +123,5 @@ fn main(rt: HostRuntime) -> ExitCode {
         // Where standard error is closed too, the exit status alone is left to tell.
         let _ = eprintln!(rt; "{status}");
     }
-    ExitCode::from(exit_status(status))
+    ExitCode::from(status.code())
 }

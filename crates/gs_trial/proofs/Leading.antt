@@ -1,0 +1,166 @@
+-- Steps that were run, and those that are left.
+use Rattle.std.proofs.Common.{◌≡◌, ◌+◌, ◌-◌, ◌^◌, ◌||◌, ◌⊎◌, ℕ, Bool, true, false, cond, List, [], ◌∷◌, ◌++◌, length, Option, Some, None}
+use Rattle.std.proofs.Common.{Result, Ok, Err, refl, sym, ap, subst, arith, append-nil, append_assoc, inl, inr}
+use Rattle.std.specs.Prelude.{MatchBool, nat_lt, ◌==◌}
+use Rattle.std.specs.Io.KnownBytes.{Appends}
+use Rattle.std.proofs.KnownBytes.{Appends-nil, Appends-trans}
+use Rattle.std.proofs.lemmas.Bool.{ltb-true, eqb-true}
+use Rattle.gs_command.specs.declared.command.Detail.{Detail}
+use Rattle.gs_schedule.specs.declared.step.Step.{Step}
+use Rattle.gs_schedule.specs.declared.line.Line.{Line}
+use Rattle.gs_schedule.specs.declared.status.TrialStatus.{TrialStatus}
+use Rattle.gs_schedule.specs.declared.status.TrialStatus.TheVariants as status
+use Rattle.gs_schedule.specs.Lines.{most_line, next_line}
+use Rattle.gs_run.specs.CaptureFile.{CaptureFile}
+use Rattle.gs_run.specs.Session.{State}
+use Rattle.gs_run.specs.Report.{Report, text_of}
+use Rattle.gs_run.specs.Deed.{Deed}
+use Rattle.gs_run.specs.Refusal.{Refusal}
+use Rattle.gs_run.specs.Done.{Ran, ran}
+use Rattle.gs_run.specs.Line.{AreDeeds, HasStep}
+use Rattle.gs_run.specs.Run.{Run, behind, refusal_status, stopped, RunsFrom, RunsOn}
+use Rattle.gs_trial.specs.Trial.{WritesFront, WritesRun, is_of_run}
+use Rattle.gs_trial.specs.Running.{EndsRun, EndsStep, IsRefused, Leads}
+use Rattle.gs_trial.proofs.SomeRun.{lines_some}
+use Rattle.gs_trial.proofs.Texts.{text-append, front_none, front_behind, front_longer}
+
+pub match_more : (b : Bool) (P Q P' Q' : Type 0) → (P → P') → (Q → Q') → MatchBool b P Q → MatchBool b P' Q'
+match_more true P Q P' Q' p q m = p m
+match_more false P Q P' Q' p q m = q m
+
+-- ---- what was run
+
+pub leads_none : {A : Type 0} (Has : ℕ → A → Option Step → Type 0) (file : CaptureFile) (n : ℕ) (xs : List A) (s : State)
+    → Leads Has file n xs s [] n xs s
+leads_none Has file n xs s = record { leads = λ run runs. runs }
+
+pub leads_more : {A : Type 0} (Has : ℕ → A → Option Step → Type 0) (file : CaptureFile) (n m k : ℕ) (xs ys zs : List A) (s t u : State) (rs qs : List Report)
+    → Leads Has file n xs s rs m ys t → Leads Has file m ys t qs k zs u → Leads Has file n xs s (rs ++ qs) k zs u
+leads_more Has file n m k xs ys zs s t u rs qs first second = record {
+  leads = λ run runs.
+      let joined : behind rs (behind qs run) ≡ behind (rs ++ qs) run =
+      ap (λ (l : List Report). record run { reports = l }) (sym (append_assoc rs qs run.reports)) in
+      subst (RunsFrom Has file n xs s) joined (first.leads (behind qs run) (second.leads run runs));
+}
+
+-- a step whose deeds were done
+pub leads_step : {A : Type 0} (Has : ℕ → A → Option Step → Type 0) (file : CaptureFile) (n : ℕ) (x : A) (xs : List A) (s : State) (step : Step)
+    (deeds : List Deed)
+    → Has n x (Some step) → AreDeeds file step s deeds → (ran file deeds s).refused ≡ None
+    → Leads Has file n (x ∷ xs) s (ran file deeds s).reports (n + 1) xs (ran file deeds s).state
+leads_step Has file n x xs s step deeds has are all = record {
+  leads = λ run runs.
+      let did = ran file deeds s in
+      let Rest = RunsFrom Has file (n + 1) xs in
+      (Some step, has, (deeds, are, subst (λ (o : Option Refusal). RunsOn n o did Rest (behind did.reports run)) (sym all) (run, runs, refl)));
+}
+
+-- ---- how a run ends
+
+-- behind what was run
+pub ends_behind : {A : Type 0} (Has : ℕ → A → Option Step → Type 0) (detail : Detail) (file : CaptureFile) (n m : ℕ) (xs ys : List A) (s t : State)
+    (rs : List Report)
+    (a b c : Option (List ℕ)) (answer : TrialStatus) → Leads Has file n xs s rs m ys t → Appends a b (text_of detail rs)
+    → EndsRun Has detail file m ys t b c answer → EndsRun Has detail file n xs s a c answer
+ends_behind Has detail file n m xs ys s t rs a b c answer led wrote ends =
+    let run = ends.run in
+    let whole : text_of detail (rs ++ run.reports) ≡ text_of detail rs ++ text_of detail run.reports = text-append detail rs run.reports in
+    record {
+      run = behind rs run;
+      runs = led.leads run ends.runs;
+      writes = match_more (is_of_run answer) _ _ _ _
+          (λ p. (p.0, subst (Appends a c) (sym whole) (Appends-trans a b c (text_of detail rs) (text_of detail run.reports) wrote p.1)))
+          (λ q. subst (WritesFront a c) (sym whole) (front_behind a b c (text_of detail rs) (text_of detail run.reports) wrote q))
+          ends.writes;
+    }
+
+-- with the answer that isn't the run's nothing more was written
+pub ends_quietly : (detail : Detail) (file : CaptureFile) (n : ℕ) (xs : List (List ℕ)) (s : State) (a : Option (List ℕ)) (answer : TrialStatus)
+    → is_of_run answer ≡ false → EndsRun HasStep detail file n xs s a a answer
+ends_quietly detail file n xs s a answer not =
+    let run = lines_some file n xs s in
+    let P = (run.0.status ≡ answer) × Appends a a (text_of detail run.0.reports) in
+    let Q = WritesFront a a (text_of detail run.0.reports) in
+    record {
+      run = run.0;
+      runs = run.1;
+      writes = subst (λ (b : Bool). MatchBool b P Q) (sym not) (front_none a (text_of detail run.0.reports));
+    }
+
+-- a line that has no step
+pub ends_bad : (detail : Detail) (file : CaptureFile) (n : ℕ) (x : List ℕ) (xs : List (List ℕ)) (s : State) (a : Option (List ℕ)) → HasStep n x None
+    → EndsRun HasStep detail file n (x ∷ xs) s a a (status.BadSchedule n)
+ends_bad detail file n x xs s a has = record {
+  run = stopped (status.BadSchedule n) s;
+  runs = (None, has, refl);
+  writes = (refl, Appends-nil a);
+}
+
+-- the run behind deeds of which one was refused, or of which it isn't known
+step_end : (detail : Detail) (Rest : State → Run → Type 0) → ((t : State) → (run : Run) × Rest t run) → (did : Ran) (refused : Option Refusal) (n : ℕ)
+    (a c : Option (List ℕ)) (answer : TrialStatus) (b : Bool) → is_of_run answer ≡ b
+    → MatchBool b (IsRefused n refused answer × Appends a c (text_of detail did.reports)) (WritesFront a c (text_of detail did.reports))
+    → (run : Run) × RunsOn n refused did Rest run × WritesRun detail run a c answer
+step_end detail Rest more did (Some why) n a c answer true eq w =
+    let run = behind did.reports (stopped (refusal_status n why) did.state) in
+    let P = (run.status ≡ answer) × Appends a c (text_of detail run.reports) in
+    let Q = WritesFront a c (text_of detail run.reports) in
+    let text : Appends a c (text_of detail run.reports) = subst (λ (l : List Report). Appends a c (text_of detail l)) (sym (append-nil did.reports)) w.1 in
+    (run, refl, subst (λ (b : Bool). MatchBool b P Q) (sym eq) (w.0, text))
+step_end detail Rest more did None n a c answer true eq w = absurd w.0
+step_end detail Rest more did (Some why) n a c answer false eq w =
+    let run = behind did.reports (stopped (refusal_status n why) did.state) in
+    let P = (run.status ≡ answer) × Appends a c (text_of detail run.reports) in
+    let Q = WritesFront a c (text_of detail run.reports) in
+    let text : Q = subst (λ (l : List Report). WritesFront a c (text_of detail l)) (sym (append-nil did.reports)) w in
+    (run, refl, subst (λ (b : Bool). MatchBool b P Q) (sym eq) text)
+step_end detail Rest more did None n a c answer false eq w =
+    let rest = more did.state in
+    let run = behind did.reports rest.0 in
+    let P = (run.status ≡ answer) × Appends a c (text_of detail run.reports) in
+    let Q = WritesFront a c (text_of detail run.reports) in
+    let text : Q = subst (WritesFront a c) (sym (text-append detail did.reports rest.0.reports))
+    (front_longer a c (text_of detail did.reports) (text_of detail rest.0.reports) w) in
+    (run, (rest.0, rest.1, refl), subst (λ (b : Bool). MatchBool b P Q) (sym eq) text)
+
+-- a step of which a deed was refused, or that wasn't run whole
+pub ends_step : {A : Type 0} (Has : ℕ → A → Option Step → Type 0) (detail : Detail) (file : CaptureFile) (n : ℕ) (x : A) (xs : List A) (s : State) (step : Step)
+    (a c : Option (List ℕ)) (answer : TrialStatus) → ((t : State) → (run : Run) × RunsFrom Has file (n + 1) xs t run) → Has n x (Some step)
+    → EndsStep detail file n step s a c answer → EndsRun Has detail file n (x ∷ xs) s a c answer
+ends_step Has detail file n x xs s step a c answer rest has ends =
+    let did = ran file ends.deeds s in
+    let end = step_end detail (RunsFrom Has file (n + 1) xs) rest did did.refused n a c answer (is_of_run answer) refl ends.writes in
+    record { run = end.0; runs = (Some step, has, (ends.deeds, ends.are_deeds, end.1)); writes = end.2 }
+
+-- ---- the next line
+
+either : (a b : Bool) → (a || b) ≡ true → (a ≡ true) ⊎ (b ≡ true)
+either true b e = inl refl
+either false b e = inr e
+
+no_step : (g : ℕ) (line : List ℕ) → (nat_lt most_line (length line) || (g + 1 == 2 ^ 32 - 1)) ≡ true → HasStep (g + 1) line None
+no_step g line test = λ step is. elim (either (nat_lt most_line (length line)) (g + 1 == 2 ^ 32 - 1) test) [
+  | inl long ↦ absurd (omega (arith, is.short, ltb-true most_line (length line) long))
+  | inr last ↦ absurd (omega (arith, is.numbered, eqb-true (g + 1) (2 ^ 32 - 1) last))
+]
+
+-- a line that is refused has no step
+pub next_bad : (g : ℕ) (lines : List (List ℕ)) (k : ℕ) → next_line g lines ≡ Err k
+    → (line : List ℕ) × (rest : List (List ℕ)) × (lines ≡ line ∷ rest) × (k ≡ g + 1) × HasStep (g + 1) line None
+next_bad g [] k is = absurd cc
+next_bad g (line ∷ rest) k is = by (nat_lt most_line (length line) || (g + 1 == 2 ^ 32 - 1)) refl is
+  where
+    by : (b : Bool) → (nat_lt most_line (length line) || (g + 1 == 2 ^ 32 - 1)) ≡ b
+        → cond {A = Result (Option Line) ℕ} b (Err (g + 1)) (Ok (Some (record { number = g + 1; bytes = line }))) ≡ Err k
+        → (l : List ℕ) × (r : List (List ℕ)) × (line ∷ rest ≡ l ∷ r) × (k ≡ g + 1) × HasStep (g + 1) l None
+    by true e is = (line, rest, refl, cc, no_step g line e)
+    by false e is = absurd cc
+
+-- none comes where none is left
+pub next_none : (g : ℕ) (lines : List (List ℕ)) → next_line g lines ≡ Ok None → lines ≡ []
+next_none g [] is = refl
+next_none g (line ∷ rest) is = by (nat_lt most_line (length line) || (g + 1 == 2 ^ 32 - 1)) is
+  where
+    by : (b : Bool) → cond {A = Result (Option Line) ℕ} b (Err (g + 1)) (Ok (Some (record { number = g + 1; bytes = line }))) ≡ Ok None → line ∷ rest ≡ []
+    by true is = absurd cc
+    by false is = absurd cc

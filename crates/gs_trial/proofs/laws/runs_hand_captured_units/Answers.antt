@@ -1,5 +1,0 @@
-use Rattle.gs_trial.proofs.PairedRuns.{runs_hand_captured_units}
-use Rattle.gs_trial.proofs.laws.runs_hand_captured_units.Goals as goal
-
-pub returns : goal.returns
-returns c = runs_hand_captured_units

@@ -1,0 +1,33 @@
+use Rattle.gs_trial.proofs.Leading.{ends_bad}
+use Rattle.gs_trial.proofs.Proper.{proper}
+use Rattle.gs_trial.proofs.Results.{err_more, on_more}
+use Rattle.gs_trial.proofs.RunLines.{ends_line, has_none, has_step, led_line}
+use Rattle.gs_trial.proofs.trial.Trial.run_line.Goals as goal
+
+pub run_step-requires-clause-proper : goal.run_step-requires-clause-proper
+run_step-requires-clause-proper g c = proper c.as_bytes.result.now c.in-Some.step ((c.read_line.ensures c.in-Some.step).0 c.in-Some.is)
+
+pub returns-in_default-clause-ends : goal.returns-in_default-clause-ends
+returns-in_default-clause-ends g c = λ file state rest stands.
+    ends_bad c.args.self.now.reporter.detail file c.args.line.now.number c.args.line.now.bytes rest state (g.K.Outside.written c.args.out.now)
+    (has_none c.args.line.now.number c.args.line.now.bytes c.as_bytes.result.now c.read_line.result c.as_bytes.ensures c.in_default.is c.read_line.ensures)
+
+pub returns-clause-led : goal.returns-clause-led
+returns-clause-led g c =
+    on_more c.run_step.result _ _
+    (λ ran. λ file state rest stands.
+    led_line c.args.self.now.reporter.detail file c.args.line.now.number c.args.line.now.bytes rest state c.in-Some.step _ _ _ c.run_step.new.self
+    (has_step c.args.line.now.number c.args.line.now.bytes c.as_bytes.result.now c.read_line.result c.in-Some.step c.as_bytes.ensures c.in-Some.is
+    c.read_line.ensures c.requires.short c.requires.numbered)
+    (ran file state stands))
+    c.run_step.ensures.ran
+
+pub returns-clause-ends : goal.returns-clause-ends
+returns-clause-ends g c =
+    err_more c.run_step.result _ _
+    (λ answer ends. λ file state rest stands.
+    ends_line c.args.self.now.reporter.detail file c.args.line.now.number c.args.line.now.bytes rest state c.in-Some.step _ _ answer
+    (has_step c.args.line.now.number c.args.line.now.bytes c.as_bytes.result.now c.read_line.result c.in-Some.step c.as_bytes.ensures c.in-Some.is
+    c.read_line.ensures c.requires.short c.requires.numbered)
+    (ends file state stands))
+    c.run_step.ensures.ends

@@ -1,0 +1,70 @@
+// The trial itself.
+
+ghost use Rattle.std.specs.Prelude.{◌≡◌, ◌≢◌, ◌↔◌, ℕ, Some, IsSome, map, string_bytes};
+ghost use Rattle.std.specs.Io.KnownBytes.{IsAtEnd};
+ghost use Rattle.gs_bytes.specs.Outside.{Rose, SetsFlag};
+ghost use Rattle.gs_command.specs.Words.{command_of, first_misfit};
+ghost use Rattle.gs_command.specs.declared.command.Detail as spec;
+ghost use Rattle.gs_trial.specs.Trial.{Answers, IsGenerating, answer_of};
+
+use crate::generating::{make, write_tape};
+use crate::script::run_script;
+use gs_bytes::{Sink, Source};
+use gs_command::{TrialCommand, read_command};
+use gs_schedule::TrialStatus;
+use std::alloc::Global;
+
+/// Runs the command that the words are, over a capture file and a schedule, and writes what a run reports.
+///
+/// `script bytes TAPE SCHEDULE` and `script brief TAPE SCHEDULE` run the schedule over the capture file: the file's head is
+/// read, then line after line of the schedule, each acted on and its text written before the next is read, then the rest of
+/// the file; then the sums and `ok` are written. The first fault in that order ends it, and what was written stays. `make N T`
+/// runs the schedule that is generated over the generated capture, and writes the sums and `ok`. `tape N T` writes the
+/// generated capture file. These two read no source.
+pub fn trial_main<S: Source, T: Source, K: Sink>(
+    alloc: Global,
+    words: &[String],
+    tape: &mut S,
+    schedule: &mut T,
+    out: &mut K,
+) -> TrialStatus
+    // What the words are, and what is written and answered.
+    ensures usage { (word : ℕ) → (result ≡ TrialStatus.Usage word) ↔ (first_misfit (map string_bytes words.now) ≡ Some word) }
+    ensures runs { (command : TrialCommand) → command_of (map string_bytes words.now) ≡ Some command → Answers command
+        (S.left tape.old) (T.left schedule.old) (K.written out.old) (K.written out.new) result }
+
+    // Which sources are read, and how far.
+    ensures whole { (detail : spec.Detail) → command_of (map string_bytes words.now) ≡ Some (TrialCommand.Script detail)
+        → result ≡ TrialStatus.Ok → SetsFlag (S.met_end tape.old) (S.met_end tape.new) × IsAtEnd (T.left schedule.new) }
+    ensures generated_reads_nothing { (command : TrialCommand) → command_of (map string_bytes words.now) ≡ Some command
+        → IsGenerating command → (tape.new ≡ tape.old) × (schedule.new ≡ schedule.old) }
+    ensures usage_changes_nothing { IsSome (first_misfit (map string_bytes words.now))
+        → (tape.new ≡ tape.old) × (schedule.new ≡ schedule.old) × (out.new ≡ out.old) }
+
+    // The causes of its answers.
+    ensures tape_fault { result ≡ TrialStatus.TapeFault → Rose (S.faults tape.old) (S.faults tape.new) }
+    ensures schedule_fault { result ≡ TrialStatus.ScheduleFault → Rose (T.faults schedule.old) (T.faults schedule.new) }
+    ensures write_fault { result ≡ TrialStatus.WriteFault → Rose (K.faults out.old) (K.faults out.new) }
+    ensures tape_counted { S.faults tape.new ≢ S.faults tape.old → result ≡ TrialStatus.TapeFault }
+    ensures schedule_counted { T.faults schedule.new ≢ T.faults schedule.old → result ≡ TrialStatus.ScheduleFault }
+    ensures write_counted { K.faults out.new ≢ K.faults out.old → result ≡ TrialStatus.WriteFault }
+{
+    match read_command(words) {
+        Err(word) => TrialStatus::Usage { word },
+        Ok(TrialCommand::Script(detail)) => {
+            status_of(run_script(alloc, detail, tape, schedule, out))
+        }
+        Ok(TrialCommand::Make(generated)) => status_of(make(alloc, generated, out)),
+        Ok(TrialCommand::Tape(generated)) => status_of(write_tape(alloc, generated, out)),
+    }
+}
+
+// The answer of a trial that ended so.
+fn status_of(ended: Result<(), TrialStatus>) -> TrialStatus
+    ensures { result ≡ answer_of ended }
+{
+    match ended {
+        Ok(()) => TrialStatus::Ok,
+        Err(status) => status,
+    }
+}
