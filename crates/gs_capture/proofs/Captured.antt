@@ -1,9 +1,9 @@
 -- Ticks in order, with audio units of one length.
-use Rattle.std.proofs.Common.{◌≡◌, ℕ, zero, suc, ◌+◌, ◌<◌, ◌≤◌, List, [], ◌∷◌, ◌++◌, length, refl, sym, ap, ◌∙◌, subst}
-use Rattle.std.proofs.Common.{arith, append_assoc, append-nil, Option, Some, None, slice_get, map}
+use Rattle.std.proofs.Common.{◌≡◌, ℕ, ◌+◌, ◌≤◌, List, [], ◌∷◌, ◌++◌, length, refl, sym, ap, ◌∙◌, subst}
+use Rattle.std.proofs.Common.{arith, append_assoc, append-nil}
 use mathlib.Core.List.{IsPrefix}
 use Rattle.gs_tape.specs.Tick.{Tick}
-use Rattle.gs_capture.specs.Captures.{AreCapturedFrom, HasAudio}
+use Rattle.gs_capture.specs.Captures.{AreCapturedFrom}
 
 -- one list behind another, whose numbers go on
 pub captured_append : (audio number : ℕ) (xs ys : List Tick) → AreCapturedFrom audio number xs → AreCapturedFrom audio (number + length xs) ys

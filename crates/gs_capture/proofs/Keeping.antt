@@ -9,7 +9,7 @@ use Rattle.crossbeam_utils.specs.Register.{Admits, TurnsAt, Forks, Merges}
 use Rattle.atomic_table.proofs.Lists.{at_set, at_snoc}
 use Rattle.logbook.specs.Pages.{Book}
 use Rattle.gs_tape.specs.Tick.{Tick}
-use Rattle.gs_capture.specs.Captures.{Capture, AreCaptured, HasAudio}
+use Rattle.gs_capture.specs.Captures.{Capture, HasAudio}
 use Rattle.gs_capture.specs.Growing.{grown, Follows}
 use Rattle.gs_capture.specs.declared.appended.Appended.{Appended}
 use Rattle.gs_capture.specs.declared.sight.Sight.{Sight}

@@ -1,9 +1,8 @@
 -- The rule of what is published, and what each step on it tells.
-use Rattle.std.specs.Prelude.{◌≡◌, ℕ, List, [], ◌∷◌, ◌++◌, length, Option, Some, None, IfSome}
+use Rattle.std.specs.Prelude.{◌≡◌, ℕ, List, [], ◌∷◌, ◌++◌, length, Some, None, IfSome}
 use mathlib.Core.Option.{some}
 use mathlib.Core.List.{IsPrefix}
 use lib.ListN.{get_elem?}
-use Rattle.gs_tape.specs.Tick.{Tick}
 use Rattle.gs_capture.specs.Captures.{Capture, AreCaptured, Viewed, nothing}
 use Rattle.gs_capture.specs.Held.{held_or}
 use Rattle.gs_capture.specs.declared.sight.Sight.{Sight}

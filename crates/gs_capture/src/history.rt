@@ -1,6 +1,6 @@
 //! The history of a capture: the ticks that its recorder gave to be published, in order. It lies in proofs
 //! alone, and lasts for good; in memory there is its length.
-ghost use Rattle.std.specs.Prelude.{◌≡◌, ◌+◌, ◌<◌, ◌^◌, ◌++◌, ◌∷◌, [], length, IfSome};
+ghost use Rattle.std.specs.Prelude.{◌≡◌, ◌<◌, ◌^◌, ◌++◌, ◌∷◌, [], length, IfSome};
 ghost use Rattle.std.specs.Arc.{arc_value};
 ghost use Rattle.gs_capture.specs.Histories.{head_of};
 

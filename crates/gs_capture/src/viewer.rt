@@ -1,5 +1,5 @@
 //! The reading end of a capture.
-ghost use Rattle.std.specs.Prelude.{◌≡◌, true, is_some, IfOk, IfSome, option_map};
+ghost use Rattle.std.specs.Prelude.{◌≡◌, true, is_some, IfOk, option_map};
 ghost use Rattle.std.specs.Arc.{arc_value};
 ghost use mathlib.Core.List.{IsPrefix};
 ghost use Rattle.left_right.specs.Sides.{view};

@@ -7,7 +7,8 @@ use Rattle.gs_tape.specs.Reading.{Fault, Head, Read, head_at, ticks_of, first_fa
 use Rattle.gs_tape.specs.Tape.{Opened, unread}
 use Rattle.gs_tape.specs.Errors.{fault_of}
 use Rattle.gs_tape.specs.declared.error.TapeError.{TapeError}
-use Rattle.gs_tape.specs.declared.stage.Stage.TheVariants.{Open}
+use Rattle.gs_tape.specs.declared.stage.Stage.{Stage}
+use Rattle.gs_tape.specs.declared.stage.Stage.TheVariants.{Open, Ended, Failed}
 
 -- The open file; whether a tick was read that there was no memory to keep; how many ticks were captured, and the newest
 -- of them, oldest first.
@@ -69,6 +70,17 @@ abbrev pub count_behind : ℕ → Result Bool TapeError → ℕ
 count_behind count (Ok true) = count + 1
 count_behind count (Ok false) = count
 count_behind count (Err e) = count
+
+-- whether the file is read on behind an answer
+abbrev pub stage_behind : Result Bool TapeError → Stage
+stage_behind (Ok true) = Open
+stage_behind (Ok false) = Ended
+stage_behind (Err e) = Failed e
+
+-- it isn't behind the answer about all its rest
+abbrev pub stage_behind_rest : {A : Type 0} → Result A TapeError → Stage
+stage_behind_rest (Ok x) = Ended
+stage_behind_rest (Err e) = Failed e
 
 -- the file ends with this fault, or with none
 abbrev pub EndsWith : {A : Type 0} → Option Fault → Result A TapeError → Type 0

@@ -4,14 +4,14 @@ ghost use Rattle.std.specs.Prelude.{ℕ, true, false, ◌≡◌, ◌≢◌, ◌�
 ghost use Rattle.std.specs.Arc.{arc_value};
 ghost use Rattle.std.specs.List.{All, range_with_len};
 ghost use Rattle.std.specs.Option.{option_copied};
-ghost use Rattle.std.specs.Io.KnownBytes.{Keeps};
+ghost use Rattle.std.specs.Io.KnownBytes.{IsAtEnd, Keeps};
 ghost use Rattle.gs_bytes.specs.Outside.{KeepsFlag, Rose, SetsFlag};
 ghost use Rattle.gs_tape.specs.Tick.{tick_numbered};
 ghost use Rattle.gs_tape.specs.Tick as spec;
 ghost use Rattle.gs_tape.specs.Limits.{IsTickWithinLimits, most_audio};
 ghost use Rattle.gs_tape.specs.Reading.{Fault};
 ghost use Rattle.gs_tape.specs.declared.stage.Stage.TheVariants.{Open};
-ghost use Rattle.gs_feed.specs.Feeding.{Captures, EndsWith, IfTold, IsOf, Opens, StandsFor, count_behind, forgotten};
+ghost use Rattle.gs_feed.specs.Feeding.{Captures, EndsWith, IfTold, IsOf, Opens, StandsFor, count_behind, forgotten, stage_behind, stage_behind_rest};
 
 use crate::kept::keep;
 use crate::rest::read_rest;
@@ -52,6 +52,7 @@ impl Feed {
     pub fn open<S: Source>(alloc: Global, source: &mut S) -> Result<Feed, TapeError>
         ensures opens { Opens (S.left source.old) (S.left source.new) result }
         ensures first { IfOk result (λ feed. (feed.count ≡ 0) × (feed.tape.stage ≡ Open)) }
+        ensures whole { IfOk result (λ feed. feed.lost ≡ false) }
         ensures most { IfOk result (λ feed. feed.tape.audio ≤ most_audio) }
         ensures known { IfOk result (λ feed. (feed.tape.duration ≡ 5) ⊎ (feed.tape.duration ≡ 10)) }
         ensures not_met { OnOk result (KeepsFlag (S.met_end source.old) (S.met_end source.new)) }
@@ -107,10 +108,13 @@ impl Feed {
         ensures same { (self.new.kept ≡ self.old.kept) ⊎ (result ≡ Ok true) }
         ensures head { (self.new.tape.audio ≡ self.old.tape.audio) × (self.new.tape.duration ≡ self.old.tape.duration) }
         ensures open { IfOk result (λ more. IsTrue more → self.new.tape.stage ≡ Open) }
+        ensures stage { self.new.lost ≡ false → self.new.tape.stage ≡ stage_behind result }
+        ensures memory { IsTrue self.new.lost → result ≡ Err TapeError.OutOfMemory }
         ensures again { self.old.tape.stage ≢ Open → (self.new ≡ self.old) × (source.new ≡ source.old) }
         ensures lost { IsTrue self.old.lost → (self.new ≡ self.old) × (source.new ≡ source.old) × (result ≡ Err TapeError.OutOfMemory) }
 
         // What it does to the source.
+        ensures end { self.old.tape.stage ≡ Open → result ≡ Ok false → IsAtEnd (S.left source.new) }
         ensures met_end { self.old.tape.stage ≡ Open → result ≡ Ok false → SetsFlag (S.met_end source.old) (S.met_end source.new) }
         ensures not_met { result ≡ Ok true → KeepsFlag (S.met_end source.old) (S.met_end source.new) }
         ensures written { Keeps (S.written source.old) (S.written source.new) }
@@ -192,13 +196,18 @@ impl Feed {
     }
 
     /// Reads the rest of the file, keeps none of it, and answers its fault if there is one. After that no
-    /// tick can be captured; those kept stay.
+    /// tick can be captured; those kept stay. Behind an end or an error it answers the same again and reads nothing.
     pub fn finish<S: Source>(&mut self, source: &mut S) -> Result<(), TapeError>
         ensures ends { (ticks : List spec.Tick) (fault : Option Fault) → StandsFor self.old (S.left source.old) ticks fault
             → EndsWith fault result }
         ensures kept { (self.new.count ≡ self.old.count) × (self.new.kept ≡ self.old.kept) }
         ensures head { (self.new.tape.audio ≡ self.old.tape.audio) × (self.new.tape.duration ≡ self.old.tape.duration) }
         ensures done { IsTrue self.new.lost ⊎ (self.new.tape.stage ≢ Open) }
+        ensures stage { self.new.lost ≡ false → self.new.tape.stage ≡ stage_behind_rest result }
+        ensures again { self.old.tape.stage ≢ Open → (self.new ≡ self.old) × (source.new ≡ source.old) }
+        ensures same { self.new.lost ≡ self.old.lost }
+        ensures lost { IsTrue self.old.lost → (self.new ≡ self.old) × (source.new ≡ source.old) × (result ≡ Err TapeError.OutOfMemory) }
+        ensures end { self.old.tape.stage ≡ Open → OnOk result (IsAtEnd (S.left source.new)) }
         ensures met_end { self.old.tape.stage ≡ Open → OnOk result (SetsFlag (S.met_end source.old) (S.met_end source.new)) }
         ensures written { Keeps (S.written source.old) (S.written source.new) }
         ensures never_falls { S.faults source.old ≤ S.faults source.new }

@@ -53,7 +53,7 @@ impl Outside for GeneratedFile {
 }
 
 impl Source for GeneratedFile {
-    ghost use Rattle.std.specs.Prelude.{◌≡◌, ◌<◌, ◌≤◌, IfOk, Some, length};
+    ghost use Rattle.std.specs.Prelude.{◌<◌, ◌≤◌, IfOk, Some, length};
     ghost use Rattle.std.specs.Io.KnownBytes.{ReadConsumes};
     ghost use Rattle.gs_bytes.specs.Outside.{IsCounted};
 

@@ -1,6 +1,6 @@
 // A generated file, piece by piece.
 
-ghost use Rattle.std.specs.Prelude.{◌≡◌, ◌++◌, ◌≤◌, ◌<◌, ◌⊎◌, [], true, length, take, OnOk};
+ghost use Rattle.std.specs.Prelude.{◌≡◌, ◌++◌, ◌≤◌, ◌<◌, ◌⊎◌, true, length, take, OnOk};
 ghost use Rattle.gs_generated.specs.Remaining.{IsWhole, pieces_left};
 
 use crate::unspelled::Unspelled;

@@ -51,6 +51,21 @@ fn sent(frame: u32, kind: u8, reference: u32) -> Result<Sent, ChooseError> {
     })
 }
 
+// The third tick has no unit against the last frame, and is sent once.
+#[test]
+fn a_tick_without_a_unit_against_the_last_frame(rt: HostRuntime) -> Result<(), Fail> {
+    let alloc = rt.alloc();
+    let mut refs = Refs::new(alloc);
+    assert_eq!(rt; send(&mut refs, alloc, 1, &[])?, sent(1, 2, 0));
+    assert_eq!(rt; send(&mut refs, alloc, 2, &[1])?, sent(2, 1, 1));
+    assert_eq!(rt; send(&mut refs, alloc, 3, &[1])?, sent(3, 2, 0));
+    assert_eq!(rt;
+        send(&mut refs, alloc, 3, &[1])?,
+        Err(ChooseError::OldTick { last: 3 })
+    );
+    Ok(())
+}
+
 // Two losses, of which the second is of the frame that was sent after the first.
 #[test]
 fn what_is_lost_is_referred_to_no_more(rt: HostRuntime) -> Result<(), Fail> {

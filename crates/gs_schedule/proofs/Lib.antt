@@ -1,4 +1,5 @@
 pub mod Examples
+pub mod Flags
 pub mod HeldBytes
 pub mod Keywords
 pub mod LineText

@@ -1,12 +1,12 @@
 -- The first line of a text, and the lines behind it.
 use Rattle.std.proofs.Common.{◌≡◌, ◌≢◌, ◌==◌, inl, inr, ℕ, suc, ◌+◌, ◌-◌, ◌^◌, ◌<◌, ◌≤◌, min, nat_lt, Bool, true, false, ◌||◌, List, [], ◌∷◌, ◌++◌, length, take, drop, Option, None, Some, Ok, Err, refl, sym, ap, subst, ◌∙◌, append_assoc, take-append-drop, length-drop, length-take-le, arith}
 use Rattle.std.specs.Prelude.{IfSome}
-use Rattle.std.specs.List.{onto_first}
+use Rattle.std.specs.List.{list_any, onto_first}
 use Rattle.std.proofs.lemmas.List.{append-nil, take_all}
-use Rattle.std.proofs.lemmas.Bool.{cases_Bool, lt-ltb, ltb-true, ltb-false}
+use Rattle.std.proofs.lemmas.Bool.{cases_Bool, le-ltb, lt-ltb, ltb-true, ltb-false}
 use Rattle.std.proofs.Math.ListN.{drop_of_length-le}
 use Rattle.std.specs.Io.KnownBytes.{IsAtEnd, Keeps, prepend_known}
-use Rattle.gs_schedule.specs.Lines.{lines_of, newline, most_line, next_line, IsUnbroken, IsFront, LosesLine}
+use Rattle.gs_schedule.specs.Lines.{lines_of, newline, most_line, next_line, IsUnbroken, IsFront, LosesLine, holds_line}
 
 lines_of-nil : lines_of [] ≡ []
 unfolding lines_of
@@ -177,3 +177,14 @@ others old held held' used line (Some xs) (Some more) count last same keeps fron
     let short = f.short (ltb-false _ _ (first_fails _ _ fine)) in
     ap lines_of (sym (keeps ∙ ap (λ ys. ys ++ xs) same)) ∙ f.first ∙ ap (λ l. l ∷ f.rest) (short.0 ∙ sym taken)
     ∙ ap (λ ls. line ∷ ls) (short.1 ∙ ap (λ ys. lines_of (ys ++ more)) (sym is))
+
+no_newline : (bytes : List ℕ) → IsUnbroken bytes → list_any (λ byte. byte == newline) bytes ≡ false
+no_newline [] h = refl
+no_newline (b ∷ bytes) h = let apart : (b == newline) ≡ false = grind (arith, h.0) in rw apart (no_newline bytes h.1)
+
+-- few bytes without a newline hold no line
+pub no_line_held : (held : List ℕ) → IsUnbroken held → length held ≤ most_line → holds_line held ≡ true → ⊥
+no_line_held held unbroken few holds =
+    let short : nat_lt most_line (length held) ≡ false = le-ltb most_line (length held) few in
+    let none : holds_line held ≡ false = rw short (no_newline held unbroken) in
+    absurd cc

@@ -1,6 +1,6 @@
 -- The lines of a text, and what a reader of them gives.
-use Rattle.std.specs.Prelude.{◌≡◌, ◌≢◌, ℕ, ◌+◌, ◌-◌, ◌^◌, ◌<◌, ◌≤◌, ◌⊎◌, ◌==◌, ◌||◌, nat_lt, if◌then◌else◌, ⊤, List, [], ◌∷◌, length, take, drop, Option, Some, None, Result, Ok, Err}
-use Rattle.std.specs.List.{AllByRecursion, onto_first}
+use Rattle.std.specs.Prelude.{◌≡◌, ◌≢◌, ℕ, ◌+◌, ◌-◌, ◌^◌, ◌<◌, ◌≤◌, ◌⊎◌, ◌==◌, ◌||◌, nat_lt, Bool, if◌then◌else◌, ⊤, List, [], ◌∷◌, length, take, drop, Option, Some, None, Result, Ok, Err}
+use Rattle.std.specs.List.{AllByRecursion, list_any, onto_first}
 use Rattle.std.specs.Io.KnownBytes.{IsAtEnd, prepend_known}
 use Rattle.gs_schedule.specs.declared.limits.TheConstants.{MOST_LINE}
 use Rattle.gs_schedule.specs.declared.line.Line.{Line}
@@ -27,6 +27,17 @@ to_come lines left = prepend_known lines.held left
 -- the most bytes of a line, without its newline
 abbrev pub most_line : ℕ
 most_line = MOST_LINE
+
+-- What is held has the next line whole, or so much of it that it is refused: a newline stands in it, or it has more
+-- bytes than a line may have.
+abbrev pub holds_line : List ℕ → Bool
+holds_line held = nat_lt most_line (length held) || list_any (λ byte. byte == newline) held
+
+-- a flag that is told stays told
+abbrev pub TellsFlag : Option Bool → Option Bool → Type 0
+TellsFlag None now = ⊤
+TellsFlag (Some b) None = ⊥
+TellsFlag (Some b) (Some c) = ⊤
 
 -- Behind so many lines, what is given of the lines that are to come: none at the end, the first with its number,
 -- or that number alone, where the line is too long or the number the last of 32 bits.

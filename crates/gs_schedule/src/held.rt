@@ -67,6 +67,7 @@ impl Held {
         ensures not_met { IfOk result (λ more. more ≡ true → KeepsFlag (S.met_end source.old) (S.met_end source.new)) }
         ensures kept { IfOk result (λ more. more ≡ false → self.new ≡ self.old) }
         ensures err { OnErr result (self.new ≡ self.old) }
+        ensures err_not_met { OnErr result (KeepsFlag (S.met_end source.old) (S.met_end source.new)) }
         ensures written { Keeps (S.written source.old) (S.written source.new) }
         ensures never_falls { S.faults source.old ≤ S.faults source.new }
         ensures fault { IsErrOf result Failed.Fault → Rose (S.faults source.old) (S.faults source.new) }

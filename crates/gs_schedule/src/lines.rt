@@ -1,9 +1,9 @@
 //! The lines of a source.
 
-ghost use Rattle.std.specs.Prelude.{◌≡◌, ◌≢◌, ◌≤◌, ◌<◌, ◌+◌, ◌-◌, ◌^◌, ◌==◌, ◌||◌, ◌∷◌, ℕ, Err, IfErr, IfNone, IfOk, IfSome, IsErrOf, MatchOption, OnErr, OnOk, drop, length, nat_lt, take};
+ghost use Rattle.std.specs.Prelude.{◌≡◌, ◌≢◌, ◌≤◌, ◌<◌, ◌+◌, ◌-◌, ◌^◌, ◌==◌, ◌||◌, ◌∷◌, ℕ, Err, IfErr, IfNone, IfOk, IfSome, IsErrOf, MatchOption, OnErr, OnOk, drop, length, nat_lt, take, true};
 ghost use Rattle.std.specs.Io.KnownBytes.{IsAtEnd, Keeps, prepend_known};
 ghost use Rattle.gs_bytes.specs.Outside.{Rose, SetsFlag};
-ghost use Rattle.gs_schedule.specs.Lines.{Answers, IsFront, IsUnbroken, LosesLine, lines_of, most_line, newline, next_line, to_come};
+ghost use Rattle.gs_schedule.specs.Lines.{Answers, IsFront, IsUnbroken, LosesLine, TellsFlag, holds_line, lines_of, most_line, newline, next_line, to_come};
 
 use crate::held::Held;
 use crate::limits::MOST_LINE;
@@ -37,6 +37,9 @@ fn reach_line<S: Source>(held: &mut Held, source: &mut S) -> Result<Option<usize
     ensures none { IfOk result (λ found. IfNone found (length held.new ≡ 0)) }
     ensures end { IfOk result (λ found. IfNone found (IsAtEnd (S.left source.new))) }
     ensures met_end { IfOk result (λ found. IfNone found (SetsFlag (S.met_end source.old) (S.met_end source.new))) }
+    ensures tells { TellsFlag (S.met_end source.old) (S.met_end source.new) }
+    ensures held { holds_line held.old ≡ true → source.new ≡ source.old }
+    ensures some { holds_line held.old ≡ true → IfOk result (λ found. IfNone found ⊥) }
     ensures written { Keeps (S.written source.old) (S.written source.new) }
     ensures never_falls { S.faults source.old ≤ S.faults source.new }
     ensures fault { IsErrOf result Failed.Fault → Rose (S.faults source.old) (S.faults source.new) }
@@ -90,6 +93,15 @@ impl Lines {
         }
     }
 
+    /// Whether the next line is already held whole, or so much of it that it is refused: the next
+    /// call of `next` then reads nothing.
+    pub fn holds_line(&self) -> bool
+        ensures { result ≡ holds_line self.now.held }
+    {
+        let held = self.held.bytes();
+        held.len() > MOST_LINE || held.contains(&b'\n')
+    }
+
     /// The next line of the source, which is that of all earlier calls, or None at its end. A line of
     /// more than 64 bytes is refused, and so is line 4,294,967,295; both are refused again by the
     /// next call. After any error no byte is lost.
@@ -106,8 +118,13 @@ impl Lines {
         ensures counts { IfOk result (λ found. MatchOption found (self.new.given ≡ self.old.given) (λ line. self.new.given ≡ line.number)) }
         ensures end { IfOk result (λ found. IfNone found (IsAtEnd (to_come self.new (S.left source.new)))) }
         ensures met_end { IfOk result (λ found. IfNone found (SetsFlag (S.met_end source.old) (S.met_end source.new))) }
+        ensures tells { TellsFlag (S.met_end source.old) (S.met_end source.new) }
         ensures err { OnErr result (Keeps (to_come self.old (S.left source.old)) (to_come self.new (S.left source.new))) }
         ensures err_given { OnErr result (self.new.given ≡ self.old.given) }
+
+        // Where it is held nothing is read, and it isn't the end.
+        ensures held { holds_line self.old.held ≡ true → source.new ≡ source.old }
+        ensures some { holds_line self.old.held ≡ true → IfOk result (λ found. IfNone found ⊥) }
 
         ensures fault { IsErrOf result LinesError.ReadFault → Rose (S.faults source.old) (S.faults source.new) }
         ensures counted { S.faults source.new ≢ S.faults source.old → result ≡ Err LinesError.ReadFault }

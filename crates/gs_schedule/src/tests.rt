@@ -304,6 +304,21 @@ fn lines_in_order(rt: HostRuntime) -> Result<(), Fail> {
     Ok(())
 }
 
+// A line is held where its newline was read.
+#[test]
+fn a_line_is_held(rt: HostRuntime) -> Result<(), Fail> {
+    let mut source = SureSource::new(rt.alloc(), b"cap\nidr\nreset")?;
+    let mut lines = Lines::new(rt.alloc());
+    assert!(rt; !lines.holds_line());
+    lines.next(&mut source)?.ok_or("a line")?;
+    assert!(rt; lines.holds_line());
+    lines.next(&mut source)?.ok_or("a line")?;
+    assert!(rt; !lines.holds_line());
+    lines.next(&mut source)?.ok_or("a line")?;
+    assert!(rt; !lines.holds_line());
+    Ok(())
+}
+
 // A step that can't be done is told by its line.
 #[test]
 fn the_fifth_line(rt: HostRuntime) -> Result<(), Fail> {
@@ -332,6 +347,7 @@ fn a_long_line(rt: HostRuntime) -> Result<(), Fail> {
     for _ in 0..2 {
         let refused = lines.next(&mut source).err();
         assert_eq!(rt; refused, Some(LinesError::TooLong { line: 1 }));
+        assert!(rt; lines.holds_line());
     }
     Ok(())
 }

@@ -1,5 +1,5 @@
 -- Histories of a session, and what its references do at a call.
-use Rattle.std.proofs.Common.{◌≡◌, ◌⊎◌, ◌<◌, ◌+◌, ◌||◌, ℕ, ℤ, Bool, true, false, length, List, [], ◌∷◌, ◌++◌, Result, Ok, Err, OnOk, OnErr, IfOk, refl, sym, ap, subst, ◌∙◌, arith, inl, inr}
+use Rattle.std.proofs.Common.{◌≡◌, ◌⊎◌, ◌<◌, ◌||◌, ℕ, ℤ, Bool, true, false, length, List, [], ◌∷◌, ◌++◌, Result, Ok, Err, OnOk, OnErr, IfOk, refl, sym, ap, subst, ◌∙◌, arith, inl, inr}
 use Rattle.std.specs.Prelude.{if◌then◌else◌, nat_lt}
 use Rattle.std.specs.List.{AllByRecursion}
 use Rattle.std.specs.Arc.{arc_value}
@@ -28,7 +28,7 @@ use Rattle.gs_session.specs.declared.call.Reply.TheVariants.{Chosen, Taken, Aske
 use Rattle.gs_session.specs.declared.session.Session.{Session}
 use Rattle.gs_session.specs.declared.pass.SessionPass.{SessionPass}
 use Rattle.gs_session.specs.Errors.{choose_error, invalid_error, ended_error, with_error}
-use Rattle.gs_session.specs.Replies.{MayReply, IsAnswered, IsRefused, answer_to, out_of_memory, history_after, is_chosen, is_taken, is_asked}
+use Rattle.gs_session.specs.Replies.{MayReply, IsAnswered, IsRefused, answer_to, out_of_memory, is_chosen, is_taken, is_asked}
 use Rattle.gs_session.specs.Sessions.{SessionCall, opening_of, front, made_by, IsHistory, EndsWith}
 
 pub prefix-trans : {A : Type 0} (xs ys zs : List A) → IsPrefix xs ys → IsPrefix ys zs → IsPrefix xs zs

@@ -1,13 +1,10 @@
-ghost use Rattle.std.specs.Prelude.{◌≡◌, true};
-ghost use Rattle.gs_turn.specs.History.{has_number};
-ghost use Rattle.gs_session.specs.Sessions.{IsPassOf, HasPlace, own};
+ghost use Rattle.gs_session.specs.Sessions.{HasPlace};
 
 use super::*;
 use gs_bytes::OutOfMemory;
 use gs_refs::{Entry, Refs, Sent};
 use gs_tape::{Delta, Deltas, Tick, Unit, Units};
 use std::alloc::Global;
-use std::process::Abort;
 use std::sync::{Arc, Wait};
 use std::test::*;
 use std::thread::{Threads, join};

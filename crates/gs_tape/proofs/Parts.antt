@@ -1,5 +1,5 @@
 -- One step more of lists that loops build, and of what is drawn.
-use Rattle.std.proofs.Common.{◌≡◌, ◌<◌, ◌≤◌, ◌-◌, suc, Result, Ok, Err, OnOk, ◌+◌, ◌*◌, ◌/◌, ◌%◌, ℕ, List, [], ◌∷◌, ◌++◌, length, take, refl, sym, ap, subst, ◌∙◌, arith, append-nil}
+use Rattle.std.proofs.Common.{◌≡◌, ◌<◌, ◌≤◌, ◌-◌, zero, suc, Result, Ok, Err, OnOk, ◌+◌, ◌*◌, ◌/◌, ◌%◌, ℕ, List, [], ◌∷◌, ◌++◌, length, take, refl, sym, ap, subst, ◌∙◌, arith, append-nil, append_assoc}
 use Rattle.std.specs.Prelude.{get_or, nat_lt}
 use Rattle.std.proofs.lemmas.Bool.{cond-false, cond-true, le-ltb, lt-ltb}
 use Rattle.std.specs.List.{flat_map, concat}
@@ -8,7 +8,7 @@ use Rattle.std.proofs.lemmas.Grind.{flat_map-append}
 use Rattle.std.proofs.lemmas.List.{take_more}
 use Rattle.std.proofs.lemmas.List.Elements.{All-nil}
 use Rattle.std.proofs.lemmas.List.Folds.{concat-append}
-use Rattle.std.proofs.lemmas.List.FromFn.{map-range_with_len_more}
+use Rattle.std.proofs.lemmas.List.FromFn.{map-range_with_len_more, take-map-range_with_len}
 use Rattle.gs_tape.specs.Tick.{Tick, Delta}
 use Rattle.gs_tape.specs.Capture.{delta}
 use Rattle.gs_tape.specs.Writer.{IsNext, opened}
@@ -16,6 +16,42 @@ use Rattle.gs_tape.specs.Generated.{pattern, Drawn, unit_from, with_delta, delta
 
 pub pattern_more : (n base : ℕ) → pattern (n + 1) base ≡ pattern n base ++ ((base + n) % 251) ∷ []
 pattern_more n base = map-range_with_len_more (λ (i : ℕ). (base + i) % 251) 0 n n (omega arith)
+
+-- what stands behind whole periods counts up from the base again
+again_from : (n m base : ℕ) → (base + (n * 251 + m)) % 251 ≡ (base + m) % 251
+again_from n m base =
+    let whole : base + (n * 251 + m) ≡ n * 251 + (base + m) = omega arith in
+    ap (λ (k : ℕ). k % 251) whole ∙ mul-add-mod_self_right n 251 (base + m)
+
+pub pattern_behind : (n m base : ℕ) → pattern (n * 251 + m) base ≡ pattern (n * 251) base ++ pattern m base
+pattern_behind n zero base =
+    let none : n * 251 + 0 ≡ n * 251 = omega arith in
+    ap (λ (k : ℕ). pattern k base) none ∙ sym (append-nil (pattern (n * 251) base))
+pattern_behind n (suc m) base =
+    let periods = pattern (n * 251) base in
+    let one : n * 251 + suc m ≡ n * 251 + m + 1 = omega arith in
+    let more : m + 1 ≡ suc m = omega arith in
+    ap (λ (k : ℕ). pattern k base) one ∙ pattern_more (n * 251 + m) base
+    ∙ ap (λ (l : List ℕ). l ++ ((base + (n * 251 + m)) % 251) ∷ []) (pattern_behind n m base)
+    ∙ append_assoc periods (pattern m base) (((base + (n * 251 + m)) % 251) ∷ [])
+    ∙ ap (λ (b : ℕ). periods ++ (pattern m base ++ b ∷ [])) (again_from n m base)
+    ∙ ap (λ (l : List ℕ). periods ++ l) (sym (pattern_more m base) ∙ ap (λ (k : ℕ). pattern k base) more)
+
+-- one period more
+pub pattern_period : (n base : ℕ) → pattern ((n + 1) * 251) base ≡ pattern (n * 251) base ++ pattern 251 base
+pattern_period n base =
+    let more : (n + 1) * 251 ≡ n * 251 + 251 = omega arith in
+    ap (λ (k : ℕ). pattern k base) more ∙ pattern_behind n 251 base
+
+-- whole periods, and then a part of one
+pub pattern_whole : (long base : ℕ) → pattern (long / 251 * 251) base ++ take (long % 251) (pattern 251 base) ≡ pattern long base
+pattern_whole long base =
+    let rest = long % 251 in
+    let whole : long / 251 * 251 + rest ≡ long = omega (arith, mod-add-div' long 251) in
+    let part : take rest (pattern 251 base) ≡ pattern rest base =
+    take-map-range_with_len (λ (i : ℕ). (base + i) % 251) 0 251 rest (omega arith) in
+    ap (λ (l : List ℕ). pattern (long / 251 * 251) base ++ l) part ∙ sym (pattern_behind (long / 251) rest base)
+    ∙ ap (λ (k : ℕ). pattern k base) whole
 
 pub deltas_more : (ds : List Delta) (i : ℕ) (d : Delta) → i < length ds → flat_map delta (take (i + 1) ds) ≡ flat_map delta (take i ds) ++ delta (get_or ds i d)
 deltas_more ds i d within =

@@ -44,6 +44,7 @@ impl Cursor {
         ensures kept { self.new.place ≤ self.old.place + 1 }
         ensures unknown { IfErr result (λ e. fault_of e ≡ None) }
         ensures meets { MeetsSource (S.faults source.old) (S.faults source.new) (S.written source.old) (S.written source.new) result }
+        ensures end { IfOk result (λ next. IfNone next (IsAtEnd (S.left source.new))) }
         ensures met_end { IfOk result (λ next. IfNone next (SetsFlag (S.met_end source.old) (S.met_end source.new))) }
         ensures source { IfOk result (λ next. IfSome next (λ b. LeavesSource (S.faults source.old) (S.faults source.new) (S.met_end source.old) (S.met_end source.new) (S.written source.old) (S.written source.new) result)) }
     {

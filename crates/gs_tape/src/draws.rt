@@ -1,6 +1,6 @@
 // What is drawn from a state.
 
-ghost use Rattle.std.specs.Prelude.{◌≡◌, ◌+◌, ◌*◌, ◌%◌, ◌^◌, ◌<◌, ◌≤◌, IfOk, OnOk};
+ghost use Rattle.std.specs.Prelude.{◌≡◌, ◌+◌, ◌*◌, ◌%◌, ◌^◌, ◌<◌, ◌≤◌, IfOk, OnOk, vec_len};
 ghost use Rattle.gs_tape.specs.Generated as generated;
 
 use crate::delta::{Delta, Deltas};
@@ -113,15 +113,30 @@ impl Draws {
     }
 }
 
-// Bytes that count up from a base.
+// Bytes that count up from a base, written period by period.
 fn pattern(alloc: Global, length: u64, base: u64) -> Result<Unit, OutOfMemory>
     requires length { length < 2 ^ 32 }
     requires base { base < 251 }
     ensures { IfOk result (λ unit. unit ≡ generated.pattern length base) }
 {
+    let period = period_from(alloc, base)?;
     let mut bytes = Vec::with_capacity(alloc, length as usize)?;
-    'bytes: for i in 0..length {
+    'periods: for _ in 0..length / PERIOD {
+        bytes.extend_from_slice(period.as_slice())?;
+    }
+    bytes.extend_from_slice(&period[..(length % PERIOD) as usize])?;
+    Ok(Unit::from_bytes(Bytes::from_vec(bytes)?))
+}
+
+// The first period of the bytes that count up from a base.
+fn period_from(alloc: Global, base: u64) -> Result<Vec<u8>, OutOfMemory>
+    requires { base < 251 }
+    ensures bytes { IfOk result (λ period. period.items ≡ generated.pattern 251 base) }
+    ensures len { IfOk result (λ period. vec_len period ≡ 251) }
+{
+    let mut bytes = Vec::with_capacity(alloc, PERIOD as usize)?;
+    'bytes: for i in 0..PERIOD {
         bytes.push(((base + i) % PERIOD) as u8)?;
     }
-    Ok(Unit::from_bytes(Bytes::from_vec(bytes)?))
+    Ok(bytes)
 }

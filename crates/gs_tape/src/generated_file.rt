@@ -1,8 +1,8 @@
 //! The file of a capture that a number generates.
 
-ghost use Rattle.std.specs.Prelude.{◌≡◌, ◌≢◌, ◌≤◌, Err, IsErrOf, OnOk};
+ghost use Rattle.std.specs.Prelude.{◌≡◌, ◌≢◌, ◌≤◌, Err, IsErrOf, OnErr, OnOk};
 ghost use Rattle.std.specs.Io.KnownBytes.{Appends};
-ghost use Rattle.gs_bytes.specs.Outside.{Rose};
+ghost use Rattle.gs_bytes.specs.Outside.{AppendsPart, Rose};
 ghost use Rattle.gs_tape.specs.Capture.{file};
 ghost use Rattle.gs_tape.specs.Generated.{generated};
 
@@ -18,8 +18,8 @@ const AUDIO: u16 = 240;
 /// The duration of an audio unit that a number generates, in milliseconds.
 const DURATION: u8 = 5;
 
-/// Writes the file of the capture that a number generates, with so many ticks. A part of it may have
-/// been written before an error.
+/// Writes the file of the capture that a number generates, with so many ticks. At an error a front of it
+/// was written, and not all of it.
 pub fn write_generated<K: Sink>(
     alloc: Global,
     number: u32,
@@ -28,6 +28,7 @@ pub fn write_generated<K: Sink>(
 ) -> Result<(), WriteError>
     requires { ticks ≤ 2000 }
     ensures ok { OnOk result (Appends (K.written out.old) (K.written out.new) (file 240 5 (generated number ticks))) }
+    ensures err { OnErr result (AppendsPart (K.written out.old) (K.written out.new) (file 240 5 (generated number ticks))) }
     ensures never_falls { K.faults out.old ≤ K.faults out.new }
     ensures fault { IsErrOf result WriteError.WriteFault → Rose (K.faults out.old) (K.faults out.new) }
     ensures counted { K.faults out.new ≢ K.faults out.old → result ≡ Err WriteError.WriteFault }

@@ -17,6 +17,10 @@ const MAGIC: &[u8; 8] = b"GSTAPE01";
 /// What begins a tick.
 pub const TICK_TAG: u8 = 0x54;
 
+/// The most bytes of a tick that aren't those of its units: its tag, its moment, two counts, the length of its
+/// IDR unit, and what stands before each of 255 deltas.
+const MOST_HEADS: usize = 11 + 255 * 8;
+
 /// What ends a file.
 pub const END_TAG: u8 = 0x45;
 
@@ -76,6 +80,18 @@ pub fn head_bytes(alloc: Global, audio: u16, duration: u8) -> Result<Vec<u8>, Ou
     Ok(bytes)
 }
 
+// How much room the bytes of a tick are given at once, so that none is moved for want of it.
+fn room_for(tick: &Tick) -> usize {
+    let mut room = tick.idr.len().saturating_add(MOST_HEADS);
+    'deltas: for delta in tick.deltas.as_slice() {
+        room = room.saturating_add(delta.unit.len());
+    }
+    'units: for unit in tick.audio.as_slice() {
+        room = room.saturating_add(unit.len());
+    }
+    room
+}
+
 /// A tick with its tag.
 pub fn tick_bytes(alloc: Global, tick: &Tick) -> Result<Vec<u8>, OutOfMemory>
     requires audio { length tick.now.audio < 2 ^ 8 }
@@ -84,7 +100,8 @@ pub fn tick_bytes(alloc: Global, tick: &Tick) -> Result<Vec<u8>, OutOfMemory>
     requires units { All (λ d. length d.unit < 2 ^ 32) tick.now.deltas }
     ensures { IfOk result (λ bytes. bytes.items ≡ capture.tick tick.now) }
 {
-    let mut bytes = Vec::from_slice(alloc, &[TICK_TAG])?;
+    let mut bytes = Vec::with_capacity(alloc, room_for(tick))?;
+    bytes.push(TICK_TAG)?;
     put_u32(&mut bytes, tick.time)?;
     bytes.extend_from_slice(&[tick.audio.len() as u8, tick.deltas.len() as u8])?;
     put_unit(&mut bytes, &tick.idr)?;

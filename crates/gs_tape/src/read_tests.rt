@@ -1,5 +1,5 @@
 use super::*;
-use gs_bytes::{MemSource, SureSource};
+use gs_bytes::{MemSource, Source, SureSource};
 use std::alloc::Global;
 use std::test::Fail;
 
@@ -39,15 +39,25 @@ fn most() -> &'static str {
 00 00 431 432 651 651 L2 L2 00 538 538 538 538 651 651 L2 L2 00 00 00 00 250"
 }
 
+// A capture file, of which nothing is promised here: what a test needs to know it sees.
+fn opened<S: Source>(alloc: Global, source: &mut S) -> Result<Tape, TapeError> {
+    Tape::open(alloc, source)
+}
+
+// Its next tick, in the same way.
+fn next_of<S: Source>(tape: &mut Tape, source: &mut S) -> Result<Option<Tick>, TapeError> {
+    tape.next(source)
+}
+
 // What a file of few ticks is answered in the end.
 fn answer_of(alloc: Global, bytes: &[u8]) -> Result<Option<TapeError>, Fail> {
     let mut source = SureSource::new(alloc, bytes)?;
-    let mut tape = match Tape::open(alloc, &mut source) {
+    let mut tape = match opened(alloc, &mut source) {
         Ok(tape) => tape,
         Err(error) => return Ok(Some(error)),
     };
     for _ in 0..5 {
-        match tape.next(&mut source) {
+        match next_of(&mut tape, &mut source) {
             Ok(Some(_)) => {}
             Ok(None) => return Ok(None),
             Err(error) => return Ok(Some(error)),
@@ -131,41 +141,41 @@ fn a_second_tick_is_cut(rt: HostRuntime) -> Result<(), Fail> {
     let bytes = b"GSTAPE01\x00\x00\x05\x00T\x00\x00\x00\x00\x00\x00\x03\x00\x00\x00ABC\
 T\x00\x00\x00\x00\x00\x00\x05\x00\x00\x00DEF";
     let mut source = SureSource::new(rt.alloc(), bytes)?;
-    let mut tape = Tape::open(rt.alloc(), &mut source)?;
-    let first = tape.next(&mut source)?.ok_or("a tick")?;
+    let mut tape = opened(rt.alloc(), &mut source)?;
+    let first = next_of(&mut tape, &mut source)?.ok_or("a tick")?;
     assert!(rt; first.idr.as_bytes() == b"ABC".as_slice());
     let expected = TapeError::BadTape { kind: 6, place: 40 };
-    assert!(rt; tape.next(&mut source).err() == Some(expected));
-    assert!(rt; tape.next(&mut source).err() == Some(expected));
+    assert!(rt; next_of(&mut tape, &mut source).err() == Some(expected));
+    assert!(rt; next_of(&mut tape, &mut source).err() == Some(expected));
     Ok(())
 }
 
 #[test]
 fn ticks_are_read(rt: HostRuntime) -> Result<(), Fail> {
     let mut source = SureSource::new(rt.alloc(), small())?;
-    let mut tape = Tape::open(rt.alloc(), &mut source)?;
+    let mut tape = opened(rt.alloc(), &mut source)?;
     assert!(rt; tape.audio() == 2);
     assert!(rt; tape.duration() == 5);
-    assert!(rt; tape.next(&mut source)?.ok_or("a tick")?.number == 1);
-    let second = tape.next(&mut source)?.ok_or("a tick")?;
+    assert!(rt; next_of(&mut tape, &mut source)?.ok_or("a tick")?.number == 1);
+    let second = next_of(&mut tape, &mut source)?.ok_or("a tick")?;
     assert!(rt; second.time == 5);
     let delta = second.deltas.as_slice().first().ok_or("a delta")?;
     assert!(rt; delta.named == 1);
     assert!(rt; delta.unit.as_bytes() == b"DE".as_slice());
     let sound = second.audio.as_slice().first().ok_or("audio")?;
     assert!(rt; sound.as_bytes() == b"cd".as_slice());
-    assert!(rt; tape.next(&mut source)?.is_none());
-    assert!(rt; tape.next(&mut source)?.is_none());
+    assert!(rt; next_of(&mut tape, &mut source)?.is_none());
+    assert!(rt; next_of(&mut tape, &mut source)?.is_none());
     Ok(())
 }
 
 #[test]
 fn a_fault_of_the_source_is_told_again(rt: HostRuntime) -> Result<(), Fail> {
     let mut source = MemSource::new(rt.alloc(), small(), &[1])?;
-    assert!(rt; Tape::open(rt.alloc(), &mut source).err() == Some(TapeError::TapeFault));
+    assert!(rt; opened(rt.alloc(), &mut source).err() == Some(TapeError::TapeFault));
     let mut source = MemSource::new(rt.alloc(), b"GSTAPE01\x02\x00\x05\x00", &[2])?;
-    let mut tape = Tape::open(rt.alloc(), &mut source)?;
-    assert!(rt; tape.next(&mut source).err() == Some(TapeError::TapeFault));
-    assert!(rt; tape.next(&mut source).err() == Some(TapeError::TapeFault));
+    let mut tape = opened(rt.alloc(), &mut source)?;
+    assert!(rt; next_of(&mut tape, &mut source).err() == Some(TapeError::TapeFault));
+    assert!(rt; next_of(&mut tape, &mut source).err() == Some(TapeError::TapeFault));
     Ok(())
 }

@@ -1,7 +1,7 @@
 //! A capture file, read tick by tick from a source.
 
 ghost use Rattle.std.specs.Prelude.{◌≡◌, ◌≢◌, ◌⊎◌, ◌≤◌, IfNone, IfOk, IfSome, IsErrOf, OnOk};
-ghost use Rattle.std.specs.Io.KnownBytes.{Keeps};
+ghost use Rattle.std.specs.Io.KnownBytes.{IsAtEnd, Keeps};
 ghost use Rattle.gs_bytes.specs.Outside.{KeepsFlag, Rose, SetsFlag};
 ghost use Rattle.gs_tape.specs.Limits.{IsWithinLimits, most_audio};
 ghost use Rattle.gs_tape.specs.Reading.{before_first};
@@ -105,6 +105,7 @@ impl Tape {
         ensures known { IfOk result (λ next. IfSome next (λ t. self.new.before ≡ known_behind self.old.before t)) }
         ensures within { IfOk result (λ next. IfSome next (λ t. IsWithinLimits self.old.audio self.old.before.number self.old.before.time t)) }
         ensures kept { (self.new.audio ≡ self.old.audio) × (self.new.duration ≡ self.old.duration) }
+        ensures end { self.old.stage ≡ Open → IfOk result (λ next. IfNone next (IsAtEnd (S.left source.new))) }
         ensures met_end { self.old.stage ≡ Open → IfOk result (λ next. IfNone next (SetsFlag (S.met_end source.old) (S.met_end source.new))) }
         ensures not_met { IfOk result (λ next. IfSome next (λ _. KeepsFlag (S.met_end source.old) (S.met_end source.new))) }
         ensures written { Keeps (S.written source.old) (S.written source.new) }

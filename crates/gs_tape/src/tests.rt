@@ -59,12 +59,17 @@ fn a_unit_is_shared(rt: HostRuntime) -> Result<(), Fail> {
     Ok(())
 }
 
+// The next tick that is generated.
+fn generated_next(generator: &mut Generator, alloc: Global) -> Result<Option<Tick>, Fail> {
+    Ok(generator.next(alloc)?)
+}
+
 #[test]
 fn a_number_generates_its_capture(rt: HostRuntime) -> Result<(), Fail> {
     let mut generator = Generator::new(7, 9);
     let mut lengths = Vec::new(rt.alloc());
     for _ in 0..9 {
-        if let Some(tick) = generator.next(rt.alloc())? {
+        if let Some(tick) = generated_next(&mut generator, rt.alloc())? {
             lengths.push(tick.idr.len())?;
             if tick.number == 9 {
                 for delta in tick.deltas.as_slice() {
@@ -77,6 +82,6 @@ fn a_number_generates_its_capture(rt: HostRuntime) -> Result<(), Fail> {
         }
     }
     assert!(rt; lengths.as_slice() == LENGTHS.as_slice());
-    assert!(rt; generator.next(rt.alloc())?.is_none());
+    assert!(rt; generated_next(&mut generator, rt.alloc())?.is_none());
     Ok(())
 }

@@ -1,6 +1,7 @@
 // The ticks of a capture file, read from a source.
 
 ghost use Rattle.std.specs.Prelude.{◌≡◌, ◌+◌, ◌*◌, ◌≤◌, IfNone, IfOk, IfSome};
+ghost use Rattle.std.specs.Io.KnownBytes.{IsAtEnd};
 ghost use Rattle.gs_bytes.specs.Outside.{KeepsFlag, SetsFlag};
 ghost use Rattle.gs_reader.specs.Buffered.{to_come};
 ghost use Rattle.gs_tape.specs.Limits.{IsWithinLimits, most_audio, most_bytes, most_ticks};
@@ -40,6 +41,7 @@ impl Ticks {
         ensures number { self.new.known.number ≤ most_ticks + 1 }
         ensures held { self.new.known.held ≤ most_bytes }
         ensures meets { MeetsSource (S.faults source.old) (S.faults source.new) (S.written source.old) (S.written source.new) result }
+        ensures end { IfOk result (λ next. IfNone next (IsAtEnd (S.left source.new))) }
         ensures met_end { IfOk result (λ next. IfNone next (SetsFlag (S.met_end source.old) (S.met_end source.new))) }
         ensures not_met { IfOk result (λ next. IfSome next (λ _. KeepsFlag (S.met_end source.old) (S.met_end source.new))) }
     {

@@ -1,4 +1,4 @@
-use Rattle.std.proofs.Common.{◌∙◌, ap, sym, refl}
+use Rattle.std.proofs.Common.{◌∙◌, ap, sym}
 use Rattle.gs_capture.proofs.Adding.{adds_moves}
 use Rattle.gs_capture.proofs.history.add.Goals as goal
 

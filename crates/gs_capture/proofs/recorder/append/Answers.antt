@@ -1,4 +1,4 @@
-use Rattle.std.proofs.Common.{◌++◌, ◌∷◌, [], drop, sym, ap, ◌∙◌, List}
+use Rattle.std.proofs.Common.{◌++◌, ◌∷◌, [], sym, ap, ◌∙◌, List}
 use Rattle.std.specs.Arc.{arc_value}
 use Rattle.gs_tape.specs.Tick.{Tick}
 use Rattle.gs_capture.specs.Captures.{Capture}

@@ -1,4 +1,4 @@
-use Rattle.std.proofs.Common.{List, ◌∷◌, Result, sym, subst, inl, inr}
+use Rattle.std.proofs.Common.{List, Result, sym, subst, inl, inr}
 use Rattle.gs_refs.specs.declared.entry.Entry.{Entry}
 use Rattle.gs_session.specs.declared.call.Call.TheVariants as call
 use Rattle.gs_session.specs.declared.call.Reply.TheVariants as reply

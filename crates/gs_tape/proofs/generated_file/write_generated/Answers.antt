@@ -3,7 +3,7 @@ use Rattle.gs_tape.specs.Tick.{Tick}
 use Rattle.gs_tape.specs.Capture.{file}
 use Rattle.gs_tape.specs.Generated.{generated, to_come}
 use Rattle.gs_tape.proofs.GeneratedWithin.{generated_is_writable}
-use Rattle.gs_tape.proofs.GeneratedFile.{AreNext, Written, all_next, first_next, others_next, same_faults, written_head, written_on, written_whole}
+use Rattle.gs_tape.proofs.GeneratedFile.{AreNext, Written, all_next, first_next, others_next, head_part, same_faults, written_end_part, written_head, written_on, written_so_far, written_tick_part, written_whole}
 use Rattle.gs_tape.proofs.generated_file.write_generated.Goals as goal
 
 pub put-requires : goal.put-requires
@@ -34,3 +34,19 @@ pub returns-clause-ok : goal.returns-clause-ok
 returns-clause-ok g c =
     written_whole c.end.result _ (to_come c.ticks.generator) _ _ _ (rw c.in_default.is at c.in_ok-tick.ensures.none) c.ticks.invariant.written
     c.end.ensures.ok
+
+pub returns-in_err-writer-clause-err : goal.returns-in_err-writer-clause-err
+returns-in_err-writer-clause-err g c = head_part _ 240 5 (generated c.args.number c.args.ticks) _ _ c.in_err-writer.ensures.err
+
+pub returns-in_err-tick-clause-err : goal.returns-in_err-tick-clause-err
+returns-in_err-tick-clause-err g c = written_so_far _ _ (to_come c.ticks.generator) _ _ c.ticks.invariant.written
+
+pub returns-in_err-put-clause-err : goal.returns-in_err-put-clause-err
+returns-in_err-put-clause-err g c =
+    let is : to_come c.ticks.generator ≡ c.in-Some.tick ∷ to_come c.next.new.self = rw c.in-Some.is at c.in_ok-tick.ensures.tick in
+    written_tick_part _ _ _ _ c.in-Some.tick _ _ _ is c.ticks.invariant.written c.in_err-put.ensures.err
+
+pub returns-clause-err : goal.returns-clause-err
+returns-clause-err g c =
+    written_end_part c.end.result _ (to_come c.ticks.generator) _ _ _ (rw c.in_default.is at c.in_ok-tick.ensures.none) c.ticks.invariant.written
+    c.end.ensures.err

@@ -3,7 +3,6 @@ use Rattle.gs_turn.specs.History.{with_call}
 use Rattle.gs_session.specs.declared.call.Call.TheVariants as call
 use Rattle.gs_session.specs.declared.call.Reply.{Reply}
 use Rattle.gs_session.specs.declared.pass.SessionPass.{SessionPass}
-use Rattle.gs_session.specs.declared.call.Reply.TheVariants as reply
 use Rattle.gs_session.specs.Sessions.{own, made_by, EndsWith}
 use Rattle.gs_session.proofs.Histories.{ends-with, is-asked}
 use Rattle.gs_session.proofs.session.Session.ask_idr.Goals as goal

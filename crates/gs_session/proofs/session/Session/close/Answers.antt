@@ -1,7 +1,7 @@
-use Rattle.std.proofs.Common.{List, sym, subst}
+use Rattle.std.proofs.Common.{sym, subst}
 use Rattle.gs_refs.specs.Answers.{References}
 use Rattle.gs_turn.specs.History.{Front}
-use Rattle.gs_session.specs.Sessions.{SessionCall, LeavesRefs, front, own}
+use Rattle.gs_session.specs.Sessions.{LeavesRefs, front, own}
 use Rattle.gs_session.proofs.Histories.{Numbers, front-left, front-right, all-numbered}
 use Rattle.gs_session.proofs.session.Session.close.Goals as goal
 use Rattle.gs_turn.specs.Cells as cell
