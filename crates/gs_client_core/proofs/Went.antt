@@ -1,5 +1,5 @@
 -- One thing that is owed: what its message is, and whether it went.
-use Rattle.std.proofs.Common.{◌≡◌, ◌≤◌, ◌+◌, ℕ, Bool, true, false, ◌&&◌, not, List, [], ◌∷◌, ◌++◌, length, take, drop, refl, sym, ap, ◌∙◌, arith, inr, subst, get_or}
+use Rattle.std.proofs.Common.{◌≡◌, ◌≤◌, ℕ, Bool, true, false, ◌&&◌, not, List, [], ◌∷◌, ◌++◌, length, take, drop, refl, sym, ap, ◌∙◌, arith, inr, subst, get_or}
 use Rattle.std.specs.Prelude.{Ok, Err}
 use Rattle.gs_control.specs.declared.message.Message.{Message}
 use Rattle.gs_control.specs.Message.{bytes_of}

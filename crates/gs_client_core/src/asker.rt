@@ -1,6 +1,6 @@
 // What a client owes its host.
 
-ghost use Rattle.std.specs.Prelude.{◌≡◌, ◌≤◌, ◌+◌, ◌++◌, ◌∷◌, [], IfOk, OnOk, OnErr, length};
+ghost use Rattle.std.specs.Prelude.{◌≡◌, ◌≤◌, ◌+◌, ◌++◌, ◌∷◌, [], OnOk, OnErr, length};
 ghost use Rattle.gs_enet.specs.Record.{PeerRecord};
 ghost use Rattle.gs_enet.specs.Standing.{StandsFor as PeerStandsFor};
 ghost use Rattle.gs_control.specs.Message.{IsWritten, HasInputButton};

@@ -11,7 +11,7 @@ use Rattle.gs_gf256.specs.Field.{IsByte, product, inverse, inverse_below, polyno
 use Rattle.gs_poly.specs.Polynomial.{ratio_product}
 use Rattle.gs_rs.specs.Shape.{differences}
 use Rattle.gs_rtp.specs.Stream.{StreamSettings}
-use Rattle.gs_frames.specs.Datagrams.{plan_of, frame_shards, frame_datagrams}
+use Rattle.gs_frames.specs.Datagrams.{OutgoingFrame, plan_of, frame_shards, frame_datagrams}
 use Rattle.gs_frames.specs.Image.{frame_image, frame_of, packets, last_length}
 use Rattle.gs_frames.specs.Plan.{fec_plan, BlockPlan}
 use Rattle.gs_frames.specs.Client.{ClientSettings, HasWindow, datagrams}
@@ -22,7 +22,6 @@ use Rattle.gs_frames.specs.Settled.{settled}
 use Rattle.gs_frames.specs.Handed.{handed, handed_through}
 use Rattle.gs_frames.specs.Asks.{asks, asks_of}
 use Rattle.gs_frames.specs.FrameLaws.{IsSent}
-use Rattle.gs_frames.specs.Lone.{lone_frame}
 use Rattle.gs_frames.proofs.OneBlock.{IsOneBlock, one_block-complete, one_block-handed}
 
 small : StreamSettings
@@ -34,6 +33,10 @@ with_parity = record { packet = 1024; percentage = 20; minimum = 2; fps = 60; du
 -- the client of a stream that keeps this many frames open
 abbrev client : ℕ → StreamSettings → ClientSettings
 client window stream = record { stream = stream; window = window }
+
+-- an IDR frame with this unit: the count of datagrams before it, its index and its time
+abbrev idr_frame : ℕ → ℕ → ℕ → List ℕ → OutgoingFrame
+idr_frame count frame time unit = record { count = count; frame = frame; kind = 2; time = time; unit = unit }
 
 abbrev plan : ℕ → ℕ → ℕ → BlockPlan
 plan d p q = record { data_shards = d; parity_shards = p; percentage = q }
@@ -74,7 +77,7 @@ unfolding frame_image
 empty_image = refl
 
 abbrev sent : List (List ℕ)
-sent = frame_datagrams small (lone_frame 0 1 0 (codes "ABC"))
+sent = frame_datagrams small (idr_frame 0 1 0 (codes "ABC"))
 
 abbrev datagram : List ℕ
 datagram =
@@ -96,10 +99,10 @@ abbrev long : ℕ → List ℕ
 long c = replicate 1500 c
 
 abbrev first_two : List (List ℕ)
-first_two = frame_datagrams small (lone_frame 0 1 0 (long 65))
+first_two = frame_datagrams small (idr_frame 0 1 0 (long 65))
 
 abbrev next_two : List (List ℕ)
-next_two = frame_datagrams small (lone_frame 2 2 17 (long 66))
+next_two = frame_datagrams small (idr_frame 2 2 17 (long 66))
 
 abbrev at : ℕ → List (List ℕ) → List ℕ
 at n datagrams = get_or datagrams n []
@@ -116,14 +119,14 @@ unfolding small frame_datagrams frame_shards fec_plan frame_image asks asks_of r
 lost = refl
 
 -- one packet with the least parity: the second parity shard alone restores it
-one_of_three : handed (client 1 with_parity) (datagrams (at 2 (frame_datagrams with_parity (lone_frame 0 1 0 (codes "AB"))) ∷ []))
+one_of_three : handed (client 1 with_parity) (datagrams (at 2 (frame_datagrams with_parity (idr_frame 0 1 0 (codes "AB"))) ∷ []))
     ≡ record { frame = 1; kind = 2; unit = codes "AB" } ∷ []
 unfolding with_parity frame_datagrams frame_shards fec_plan frame_image handed handed_through settled received counting complete frame_of
     product inverse inverse_below polynomial_product remainder field_sum ratio_product differences
 one_of_three = refl
 
 -- the FEC information of its first datagram: one data shard, number 0, and 200 percent
-least_parity_written : take 4 (drop 28 (at 0 (frame_datagrams with_parity (lone_frame 0 1 0 (codes "AB"))))) ≡ 0x80 ∷ 0x0C ∷ 0x40 ∷ 0 ∷ []
+least_parity_written : take 4 (drop 28 (at 0 (frame_datagrams with_parity (idr_frame 0 1 0 (codes "AB"))))) ≡ 0x80 ∷ 0x0C ∷ 0x40 ∷ 0 ∷ []
 unfolding with_parity frame_datagrams frame_shards fec_plan frame_image
 least_parity_written = refl
 
@@ -140,7 +143,7 @@ fifth : StreamSettings
 fifth = record { packet = 1024; percentage = 20; minimum = 0; fps = 60; duration = 5; audio = 0; ssrc = 1 }
 
 abbrev numbered : StreamSettings → List ℕ → List ℕ → List (List ℕ)
-numbered settings unit ks = map (λ k. at k (frame_datagrams settings (lone_frame 0 1 0 unit))) ks
+numbered settings unit ks = map (λ k. at k (frame_datagrams settings (idr_frame 0 1 0 unit))) ks
 
 abbrev nine : List ℕ
 nine = 8 ∷ 7 ∷ 6 ∷ 5 ∷ 4 ∷ 3 ∷ 2 ∷ 1 ∷ 0 ∷ []
@@ -156,7 +159,7 @@ ten_distinct = refl
 
 -- The first parity shard in place of the tenth restores the frame. To compute it takes too many steps: this is by
 -- the laws.
-fifth_sent : IsSent fifth (lone_frame 0 1 0 (replicate 10000 67))
+fifth_sent : IsSent fifth (idr_frame 0 1 0 (replicate 10000 67))
 unfolding fifth
 fifth_sent = record {
   limits = record {
@@ -193,17 +196,17 @@ ten_apart = AllPairs-from_IsDistinct Decides-eqb (10 ∷ nine) (IsDistinct-from_
 one_open : HasWindow (client 1 fifth)
 one_open = record { least = lit≤ tt; greatest = lit≤ tt }
 
-ten_with_parity : IsOneBlock fifth (lone_frame 0 1 0 (replicate 10000 67)) (plan 10 2 20) (10 ∷ nine)
+ten_with_parity : IsOneBlock fifth (idr_frame 0 1 0 (replicate 10000 67)) (plan 10 2 20) (10 ∷ nine)
 ten_with_parity = record { sent = fifth_sent; planned = fifth_planned; within = ten_numbers; distinct = ten_apart; counted = refl }
 
 restored_complete : complete (client 1 fifth) (taken (client 1 fifth) (datagrams (numbered fifth (replicate 10000 67) (10 ∷ nine)))) 1
     ≡ Some (record { kind = 2; unit = replicate 10000 67 })
-restored_complete = one_block-complete (client 1 fifth) (lone_frame 0 1 0 (replicate 10000 67)) (plan 10 2 20) (10 ∷ nine) one_open ten_with_parity
+restored_complete = one_block-complete (client 1 fifth) (idr_frame 0 1 0 (replicate 10000 67)) (plan 10 2 20) (10 ∷ nine) one_open ten_with_parity
 
 restored_handed : handed (client 1 fifth) (datagrams (numbered fifth (replicate 10000 67) (10 ∷ nine)))
     ≡ record { frame = 1; kind = 2; unit = replicate 10000 67 } ∷ []
 restored_handed =
-    one_block-handed (client 1 fifth) (lone_frame 0 1 0 (replicate 10000 67)) (plan 10 2 20) (10 ∷ nine) refl refl (lit≤ tt) one_open ten_with_parity
+    one_block-handed (client 1 fifth) (idr_frame 0 1 0 (replicate 10000 67)) (plan 10 2 20) (10 ∷ nine) refl refl (lit≤ tt) one_open ten_with_parity
 
 -- the same ten and two with payloads of eight bytes, computed
 narrow : StreamSettings

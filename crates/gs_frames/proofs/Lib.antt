@@ -4,11 +4,7 @@ mod VerdictExamples
 pub mod Judged
 pub mod Taken
 pub mod Counting
-pub mod LoneFrames
-pub mod LoneHanded
 pub mod Images
-pub mod OnePacket
-pub mod LoneBytes
 pub mod Plans
 pub mod PlanLimits
 pub mod ShardsReceived

@@ -15,15 +15,45 @@ use Rattle.gs_frames.specs.Complete.{complete}
 use Rattle.gs_frames.specs.Settled.{is_done, settled}
 use Rattle.gs_frames.specs.Handed.{Handed, is_re_entry, is_barred, is_handed, hand_on, handed_through}
 use Rattle.gs_frames.specs.Asks.{lost_to, lost_by, as_list, asks_of}
-use Rattle.gs_frames.specs.Narrow.{narrow, narrow_taken, is_decodable, is_narrow_handed, handed_one, narrow_handed_through, narrow_handed_of, first_lost, range_or_none, narrow_lost_by, narrow_asks_of, NarrowClientIsClient, NarrowClientSettlesComplete, NoResetBarsNothing}
+use Rattle.gs_frames.specs.Narrow.{narrow, narrow_taken, is_decodable, is_narrow_handed, handed_one, narrow_handed_through, narrow_handed_of, narrow_handed, first_lost, range_or_none, narrow_lost_by, narrow_asks_of, narrow_asks, NarrowClientIsClient, NarrowClientSettlesComplete, NoResetBarsNothing}
 use Rattle.gs_frames.proofs.Counting.{NoneOf-above, complete-none}
 use Rattle.gs_frames.proofs.SettledUp.{left-from, left-not_from, done-above, settled-greatest, settled-unique, settled-within}
 use Rattle.gs_frames.proofs.HandedThrough.{RisesTo, through-zero, through-suc, through-rises}
 use Rattle.gs_frames.proofs.HandedGrows.{handed-is}
 use Rattle.gs_frames.proofs.AsksGrow.{asks-is, asks_of-more, asks_of-empty, not_held}
-use Rattle.gs_frames.proofs.LoneHanded.{narrow_handed_through-idle}
-use Rattle.gs_frames.proofs.LoneBytes.{narrow_handed-is, narrow_asks-is}
 use Rattle.gs_frames.proofs.OneBlock.{no_resets}
+
+-- ---- of what came
+
+narrow_handed-is : (s : StreamSettings) (came : List (List ℕ)) → narrow_handed s came ≡ narrow_handed_of s (narrow_taken s came)
+unfolding narrow_handed
+narrow_handed-is s came = refl
+
+narrow_asks-is : (s : StreamSettings) (came : List (List ℕ)) → narrow_asks s came ≡ narrow_asks_of s (narrow_taken s came)
+unfolding narrow_asks
+narrow_asks-is s came = refl
+
+-- ---- what isn't complete
+
+abbrev handed_next : List Handed → Bool → ℕ → Option Frame → List Handed
+handed_next before handed f held = before ++ (if handed then handed_one f held else [])
+
+-- frames that aren't complete add nothing
+is_narrow_handed-idle : (s : StreamSettings) (rs : List Received) (n : ℕ) → complete (narrow s) rs (suc n) ≡ None → is_narrow_handed s rs (suc n) ≡ false
+unfolding is_narrow_handed
+is_narrow_handed-idle s rs n e = ap (is_decodable (is_narrow_handed s rs n)) e
+
+narrow_handed_through-idle : (s : StreamSettings) (rs : List Received) (g n : ℕ) → g ≤ n → ((f : ℕ) → g < f → complete (narrow s) rs f ≡ None)
+    → narrow_handed_through s rs n ≡ narrow_handed_through s rs g
+unfolding narrow_handed_through
+narrow_handed_through-idle s rs g zero h idle = let same : 0 ≡ g = omega arith in ap (narrow_handed_through s rs) same
+narrow_handed_through-idle s rs g (suc n) h idle = elim (cases_lt g (suc n)) [
+  | inl below ↦
+      ap (λ (b : Bool). handed_next (narrow_handed_through s rs n) b (suc n) (complete (narrow s) rs (suc n)))
+      (is_narrow_handed-idle s rs n (idle (suc n) below))
+      ∙ append-nil (narrow_handed_through s rs n) ∙ narrow_handed_through-idle s rs g n (omega arith) idle
+  | inr at_it ↦ let same : suc n ≡ g = omega arith in ap (narrow_handed_through s rs) same
+]
 
 -- ---- what is handed among the first n
 

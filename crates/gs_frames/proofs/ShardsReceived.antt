@@ -13,8 +13,11 @@ use Rattle.gs_frames.specs.Datagrams.{Place, shard_head, headed_shard, datagram_
 use Rattle.gs_frames.specs.Plan.{BlockPlan}
 use Rattle.gs_frames.specs.Shards.{covered_header}
 use Rattle.gs_frames.specs.Received.{covered_of, carried_shard, of_session, received}
-use Rattle.gs_frames.proofs.OnePacket.{length-video_header}
 use Rattle.gs_frames.proofs.PlanLimits.{IsWithinGrammar, shards-lt}
+
+-- the length of a datagram
+length-video_header : (h : VideoHead) (bytes : List ℕ) → length (video_header h ++ bytes) ≡ 32 + length bytes
+length-video_header h bytes = omega arith
 
 -- a shard by the fields that parity covers, and its payload
 abbrev pub shard_with : ℕ → ℕ → ℕ → ℕ → ℕ → ℕ → List ℕ → List ℕ

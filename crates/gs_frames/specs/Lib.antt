@@ -11,8 +11,6 @@ pub mod Handed
 pub mod Asks
 pub mod Kept
 pub mod Narrow
-pub mod Lone
-pub mod LoneLaws
 pub mod ImageLaws
 pub mod PlanLaws
 pub mod FrameLaws

@@ -29,14 +29,6 @@ ghost use Rattle.gs_frames.specs.Narrow.{
   NoResetBarsNothing,
 };
 ghost use Rattle.gs_frames.specs.CompleteLaws.{CompleteFrameStays, CompleteFrameIsSent, EnoughCompleteFrame};
-ghost use Rattle.gs_frames.specs.LoneLaws.{
-  NewLoneFrameIsHanded,
-  OldLoneFrameIsPassedBy,
-  LoneFrameIsOneDatagram,
-  LoneDatagramIsReceived,
-  LoneDatagramIsHanded,
-  LateLoneDatagramIsPassedBy,
-};
 
 /// A law: a reader of an image finds the kind and the unit that it was made of.
 pub fn image_is_read()
@@ -143,17 +135,4 @@ pub fn narrow_client_is_client()
     ensures same { NarrowClientIsClient }
     ensures settled { NarrowClientSettlesComplete }
     ensures barred { NoResetBarsNothing }
-{}
-
-/// Laws of IDR frames that are one packet each, without parity, over any list of what came, for a client
-/// with a window of one frame and no resets: such a
-/// frame goes out as one datagram and is received as that unit; where it is above all frames that came,
-/// it is handed, and the frames between are asked for; else nothing is handed or asked for.
-pub fn lone_frames()
-    ensures one_datagram { LoneFrameIsOneDatagram }
-    ensures received { LoneDatagramIsReceived }
-    ensures new { NewLoneFrameIsHanded }
-    ensures old { OldLoneFrameIsPassedBy }
-    ensures handed { LoneDatagramIsHanded }
-    ensures passed { LateLoneDatagramIsPassedBy }
 {}

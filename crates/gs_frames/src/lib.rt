@@ -29,9 +29,9 @@ pub use image::{IMAGE_HEADER_LENGTH, write_image_header};
 pub use laws::{
     arrival_asks_for_lost, arrival_hands_new_frames, complete_frame_is_sent, complete_frame_stays,
     distinct_shards_fill_block, enough_complete_frame, frame_is_received,
-    handed_frames_are_exactly, image_is_read, last_handed_tells_next, lone_frames,
-    narrow_client_is_client, nothing_is_kept_at_first, other_ssrc_changes_nothing, plan_covers,
-    settled_is_greatest, verdict_says_what_is_whole,
+    handed_frames_are_exactly, image_is_read, last_handed_tells_next, narrow_client_is_client,
+    nothing_is_kept_at_first, other_ssrc_changes_nothing, plan_covers, settled_is_greatest,
+    verdict_says_what_is_whole,
 };
 pub use range::Range;
 pub use verdict::{Added, Shape, Why};

@@ -8,3 +8,5 @@ pub mod Chosen
 pub mod Failing
 pub mod Turned
 pub mod Opened
+pub mod Packets
+pub mod Messages

@@ -1,4 +1,5 @@
 pub mod Acts
+pub mod ActOf
 pub mod Units
 pub mod Errors
 pub mod Puts

@@ -3,6 +3,7 @@
 ghost use Rattle.std.specs.Prelude.{◌≡◌};
 ghost use Rattle.gs_host_core.specs.declared.act.Act as spec;
 ghost use Rattle.gs_host_core.specs.Acts.{HasActButton, IsActOf, act_for};
+ghost use Rattle.gs_host_core.specs.ActOf.{act_of};
 
 use gs_control::Message;
 use gs_input::Event;
@@ -25,6 +26,7 @@ pub enum Act {
 pub fn act_of(message: &[u8]) -> Act
     ensures act { IsActOf message.now result }
     ensures only { (act : spec.Act) → IsActOf message.now act → act ≡ result }
+    ensures value { result ≡ act_of message.now }
     ensures button { HasActButton result }
 {
     match Message::read(message) {

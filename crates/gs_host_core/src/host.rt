@@ -43,7 +43,7 @@ impl Model for Host {
 }
 
 impl Host {
-    ghost use Rattle.std.specs.Prelude.{ℕ, ◌+◌, ◌*◌, ◌%◌, ◌^◌, ◌≤◌, ◌<◌, ◌⊎◌, List, [], ◌∷◌, ◌++◌, length, map, All, Err, Some, IsSome, true, IfOk, OnOk, OnErr, IsErrOf};
+    ghost use Rattle.std.specs.Prelude.{◌+◌, ◌*◌, ◌%◌, ◌^◌, ◌≤◌, ◌<◌, ◌⊎◌, List, [], ◌∷◌, length, map, All, Err, Some, IfOk, OnOk, OnErr};
     ghost use Rattle.std.specs.Arc.{arc_value};
     ghost use Rattle.gs_rtp.specs.Limits.{most_frame};
     ghost use Rattle.gs_rtp.specs.Stream.{numbers_of};
@@ -58,9 +58,9 @@ impl Host {
     ghost use Rattle.gs_stream.specs.Audio.{audio_stream, audio_units};
     ghost use Rattle.gs_host_core.specs.declared.error.TurnError.TheVariants as turn_error;
     ghost use Rattle.gs_host_core.specs.declared.error.ToldError.TheVariants as told_error;
-    ghost use Rattle.gs_host_core.specs.declared.act.Act.{Act};
     ghost use Rattle.gs_host_core.specs.declared.act.Act.TheVariants as the_act;
-    ghost use Rattle.gs_host_core.specs.Acts.{IsActOf, IsTold, HasActButton};
+    ghost use Rattle.gs_host_core.specs.Acts.{IsTold, HasActButton};
+    ghost use Rattle.gs_host_core.specs.ActOf.{act_of};
     ghost use Rattle.gs_host_core.specs.Errors.{IsCountedTurn, turn_answer};
     ghost use Rattle.gs_refs.specs.declared.error.ChooseError.{ChooseError};
     ghost use Rattle.gs_host_core.specs.Hosting.{AreOfCapture, IsSendable, IsTurn, SendsTick, StandsOver, numbers_between};
@@ -223,10 +223,9 @@ impl Host {
     /// session.
     pub fn told(&mut self, message: &[u8]) -> Result<Act, ToldError>
         // The history has the entry of the message's act, unless an allocation failed, which changes nothing.
-        ensures told { (act : Act) → IsActOf message.now act
-            → IsTold self.old.history self.new.history act result
+        ensures told { IsTold self.old.history self.new.history (act_of message.now) result
             ⊎ ((result ≡ Err told_error.OutOfMemory) × (self.new ≡ self.old)) }
-        ensures act { IfOk result (λ act. IsActOf message.now act × HasActButton act) }
+        ensures act { IfOk result (λ act. (act ≡ act_of message.now) × HasActButton act) }
 
         // What stands then.
         ensures settings { self.new.settings ≡ self.old.settings }

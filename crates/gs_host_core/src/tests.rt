@@ -1,4 +1,4 @@
-ghost use Rattle.std.specs.Prelude.{◌≡◌, ◌≤◌, [], IfOk};
+ghost use Rattle.std.specs.Prelude.{◌≡◌, [], IfOk};
 ghost use Rattle.gs_rtp.specs.Stream.{StreamSettings};
 ghost use Rattle.gs_host_core.specs.Hosting.{IsSendable};
 
@@ -8,7 +8,6 @@ use gs_refs::Sent;
 use gs_rtp::Settings;
 use gs_tape::{Deltas, Tick, Unit, Units};
 use std::alloc::Global;
-use std::process::Abort;
 use std::test::Fail;
 
 const VIDEO: Addr = Addr { ip: 1, port: 9 };

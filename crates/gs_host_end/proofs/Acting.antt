@@ -1,4 +1,4 @@
--- What a host's answer to a message says of the run's act.
+-- What a host's answer to a message says of the run.
 use Rattle.std.specs.Prelude.{ℤ, unsigned_abs, Result, Ok, Err, if◌then◌else◌}
 use Rattle.std.proofs.Common.{◌≡◌, ◌⊎◌, inl, inr, ℕ, Bool, true, false, List, [], ◌∷◌, Option, Some, None, refl, sym, ap, subst, ◌∙◌}
 use Rattle.gs_rtp.specs.Stream.{StreamSettings}
@@ -17,15 +17,13 @@ use Rattle.gs_host_core.specs.declared.act.Act.{Act}
 use Rattle.gs_host_core.specs.declared.act.Act.TheVariants as act
 use Rattle.gs_host_core.specs.declared.error.ToldError.{ToldError}
 use Rattle.gs_host_core.specs.declared.error.ToldError.TheVariants as told_error
-use Rattle.gs_host_core.specs.Acts.{IsActOf, IsTold, history_behind, range_told, ask_told, answer_with}
+use Rattle.gs_host_core.specs.Acts.{IsTold, history_behind, range_told, ask_told, answer_with}
+use Rattle.gs_host_core.specs.ActOf.{act_of}
 use Rattle.gs_host_core.specs.Hosting.{Hosting, StandsOver}
 use Rattle.gs_host_core.proofs.Acted.{quiet}
 use Rattle.gs_run.specs.Report.{Report, Acted, plain, quietly, reporting}
-use Rattle.gs_run.specs.Message.{act_of}
 use Rattle.gs_run.specs.Hearing.{acts_on, entered}
-use Rattle.gs_host_end.specs.Acts.{run_act}
 use Rattle.gs_host_end.specs.Heard.{Hears, Keeps, done_line, line_of}
-use Rattle.gs_host_end.proofs.Messages.{an_act, same_act}
 
 -- ---- what stays as it was
 
@@ -65,7 +63,7 @@ keeps-then old now new k l = record {
   stands = λ ticks h. l.stands ticks (k.stands ticks h);
 }
 
--- by what a host that was told a message says of one of its acts
+-- by what a host that was told a message says of its act
 abbrev pub Told : Hosting → Hosting → Act → Result Act ToldError → Type 0
 Told old new a result = IsTold old.history new.history a result ⊎ ((result ≡ Err told_error.OutOfMemory) × (new ≡ old))
 
@@ -80,12 +78,6 @@ keeps-told old new a result settings stands (inl told) = record {
   audio = λ s ticks. ap (audio_stream s ticks) told.history ∙ audio-quiet s ticks old.history a;
   stands = stands;
 }
-
-pub keeps-any : (bytes : List ℕ) (old new : Hosting) (result : Result Act ToldError) → new.settings ≡ old.settings
-    → ((ticks : List Tick) → StandsOver old ticks → StandsOver new ticks)
-    → ((a : Act) → IsActOf bytes a → Told old new a result) → Keeps old new
-keeps-any bytes old new result settings stands told =
-    let x = an_act bytes in keeps-told old new x.0 result settings stands (told x.0 x.1)
 
 told-ok : (old new : Hosting) (a b : Act) → Told old new a (Ok b) → IsTold old.history new.history a (Ok b)
 told-ok old new a b (inl told) = told
@@ -103,7 +95,7 @@ told-bad old new a n (inr none) = absurd (let e = none.0 in cc)
 -- ---- what is done
 
 abbrev Done : ℕ → ℕ → Act → List Entry → List Entry → Option Output → Type 0
-Done session channel a h now line = Hears (acts_on session channel (run_act a) h) now line
+Done session channel a h now line = Hears (acts_on session channel a h) now line
 
 -- a history that stays, with what is reported
 stays : (over : Bool) (h now : List Entry) (reports : List Report) → now ≡ (if over then h else h)
@@ -224,32 +216,21 @@ ended session channel h now (act.Invalidate first last) n t =
 abbrev Heard : ℕ → ℕ → List ℕ → Hosting → Hosting → Option Output → Type 0
 Heard session channel bytes old new line = Hears (acts_on session channel (act_of bytes) old.history) new.history line
 
--- what was done about an act was done about the message
-of_message : (session channel : ℕ) (bytes : List ℕ) (a : Act) (h now : List Entry) (line : Option Output) → IsActOf bytes a
-    → Done session channel a h now line → Hears (acts_on session channel (act_of bytes) h) now line
-of_message session channel bytes a h now line is d = subst (λ x. Hears (acts_on session channel x h) now line) (same_act bytes a is) d
-
-pub heard-done : (session channel : ℕ) (bytes : List ℕ) (old new : Hosting) (a : Act) (line : Option Output) → IsActOf bytes a
-    → Told old new a (Ok a) → line ≡ done_line session channel a → Heard session channel bytes old new line
+pub heard-done : (session channel : ℕ) (bytes : List ℕ) (old new : Hosting) (a : Act) (line : Option Output) → a ≡ act_of bytes
+    → Told old new (act_of bytes) (Ok a) → line ≡ done_line session channel a → Heard session channel bytes old new line
 heard-done session channel bytes old new a line is told e =
-    of_message session channel bytes a old.history new.history line is
-    (subst (λ (l : Option Output). Done session channel a old.history new.history l) (sym e)
-    (done session channel old.history new.history a a (told-ok old new a a told)))
+    subst (λ (l : Option Output). Done session channel (act_of bytes) old.history new.history l) (sym (e ∙ ap (done_line session channel) is))
+    (done session channel old.history new.history (act_of bytes) a (told-ok old new (act_of bytes) a told))
 
-pub heard-refused : (session channel : ℕ) (bytes : List ℕ) (old new : Hosting) → ((a : Act) → IsActOf bytes a → Told old new a (Err told_error.Ended))
+pub heard-refused : (session channel : ℕ) (bytes : List ℕ) (old new : Hosting) → Told old new (act_of bytes) (Err told_error.Ended)
     → Heard session channel bytes old new None
 heard-refused session channel bytes old new told =
-    let x = an_act bytes in
-    of_message session channel bytes x.0 old.history new.history None x.1
-    (refused session channel old.history new.history x.0 (told-ended old new x.0 (told x.0 x.1)))
+    refused session channel old.history new.history (act_of bytes) (told-ended old new (act_of bytes) told)
 
 pub heard-ended : (session channel : ℕ) (bytes : List ℕ) (old new : Hosting) (n : ℕ) (line : Option Output)
-    → ((a : Act) → IsActOf bytes a → Told old new a (Err (told_error.BadRange n)))
-    → ((first last : ℤ) → IsActOf bytes (act.Invalidate first last) → line ≡ Some (output.Ended session first last))
+    → Told old new (act_of bytes) (Err (told_error.BadRange n))
+    → ((first last : ℤ) → act_of bytes ≡ act.Invalidate first last → line ≡ Some (output.Ended session first last))
     → Heard session channel bytes old new line
 heard-ended session channel bytes old new n line told named_by =
-    let x = an_act bytes in
-    let e = ended session channel old.history new.history x.0 n (told-bad old new x.0 n (told x.0 x.1)) in
-    of_message session channel bytes x.0 old.history new.history line x.1
-    (subst (λ (l : Option Output). Done session channel x.0 old.history new.history l)
-    (sym (named_by e.first e.last (subst (IsActOf bytes) e.act_is x.1))) e.done)
+    let e = ended session channel old.history new.history (act_of bytes) n (told-bad old new (act_of bytes) n told) in
+    subst (λ (l : Option Output). Done session channel (act_of bytes) old.history new.history l) (sym (named_by e.first e.last e.act_is)) e.done

@@ -1,5 +1,3 @@
-pub mod Packets
-pub mod Messages
 pub mod Boxes
 pub mod Acting
 pub mod Listening

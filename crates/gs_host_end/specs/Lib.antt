@@ -1,4 +1,3 @@
-pub mod Acts
 pub mod Counts
 pub mod Boxes
 pub mod Heard

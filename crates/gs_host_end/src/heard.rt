@@ -4,8 +4,7 @@ ghost use Rattle.std.specs.Prelude.{◌≡◌, ◌+◌, ℤ, Some, IfOk, OnOk, l
 ghost use Rattle.std.specs.List.{flat_map};
 ghost use Rattle.gs_schedule.specs.declared.output.Output.TheVariants as output;
 ghost use Rattle.gs_host_core.specs.declared.act.Act.TheVariants as the_act;
-ghost use Rattle.gs_host_core.specs.Acts.{IsActOf};
-ghost use Rattle.gs_run.specs.Message.{act_of as run_act_of};
+ghost use Rattle.gs_host_core.specs.ActOf.{act_of};
 ghost use Rattle.gs_run.specs.Hearing.{acts_on, host_heard, all_heard};
 ghost use Rattle.gs_run.specs.Totals.{input_of};
 ghost use Rattle.gs_report.specs.Reporting.{Did};
@@ -53,7 +52,7 @@ fn done_line(session: u32, channel: u8, act: Act) -> Result<Option<Output>, OutO
 
 /// The line of a message that named a range of frames which weren't sent.
 fn ended_line(session: u32, message: &[u8]) -> Option<Output>
-    ensures { (first last : ℤ) → IsActOf message.now (the_act.Invalidate first last)
+    ensures { (first last : ℤ) → act_of message.now ≡ the_act.Invalidate first last
         → result ≡ Some (output.Ended session first last) }
 {
     match act_of(message) {
@@ -73,7 +72,7 @@ fn act_on(
     channel: u8,
     message: &[u8],
 ) -> Result<Option<Output>, OutOfMemory>
-    ensures heard { IfOk result (λ line. Hears (acts_on session channel (run_act_of message.now) host.old.history)
+    ensures heard { IfOk result (λ line. Hears (acts_on session channel (act_of message.now) host.old.history)
         host.new.history line) }
     ensures keeps { Keeps host.old host.new }
 {

@@ -1,6 +1,6 @@
 // The host's turn.
 
-ghost use Rattle.std.specs.Prelude.{◌≡◌, ◌∷◌, [], ℕ, List, map, All, IfOk, OnOk};
+ghost use Rattle.std.specs.Prelude.{◌≡◌, ◌∷◌, [], ℕ, List, map, All, IfOk, IsErr, IsTrue, OnOk};
 ghost use Rattle.std.specs.Arc.{arc_value};
 ghost use Rattle.gs_tape.specs.Tick as spec;
 ghost use Rattle.gs_host_core.specs.Hosting.{IsSendable, AreOfCapture, numbers_between};
@@ -39,10 +39,11 @@ fn report_sent(session: u32, sent: &Sent, reporter: &mut Reporter) -> Result<(),
 
 impl HostEnd {
     /// Sends the newest tick that is captured, unless that was sent or the session ended, and reports it. After a turn
-    /// that failed for want of memory each one fails so.
+    /// that ran out of memory while it sent each one fails so, and changes nothing.
     pub fn turn(&mut self, feed: &Feed, reporter: &mut Reporter) -> Result<(), OutOfMemory>
         requires keeps { KeepsTicks feed.now self.old }
         ensures keeps { OnOk result (KeepsTicks feed.now self.new) }
+        ensures lost { IsTrue self.old.lost → IsErr result × (self.new ≡ self.old) × (reporter.new ≡ reporter.old) }
         ensures turned { OnOk result ((scene : Scene) (part : Part) → IsCapturedOf feed.now scene
             → StandsFor self.old scene.session scene.ticks part
             → Did (StandsFor self.new scene.session scene.ticks) (turned scene part) reporter.old reporter.new) }

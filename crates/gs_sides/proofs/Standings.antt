@@ -1,7 +1,7 @@
 -- What a value stands for behind each call.
-use Rattle.std.proofs.Common.{◌≡◌, ◌≢◌, ◌<◌, ◌+◌, ◌-◌, ℕ, Bool, true, false, not, List, [], ◌∷◌, ◌++◌, length, get_or, set, Option, Some, None, Result, Ok, Err, refl, sym, ap, subst, ◌∙◌, arith, inl, inr}
-use Rattle.std.specs.Prelude.{◌&&◌, nat_lt, slice_get}
-use Rattle.std.proofs.lemmas.Bool.{cases_eq, and_parts, lt-ltb}
+use Rattle.std.proofs.Common.{◌≡◌, ◌<◌, ◌+◌, ℕ, Bool, true, false, List, [], ◌∷◌, ◌++◌, length, get_or, set, Option, Some, None, Result, Ok, Err, refl, sym, ap, subst, ◌∙◌, arith, inl, inr}
+use Rattle.std.specs.Prelude.{◌&&◌, nat_lt}
+use Rattle.std.proofs.lemmas.Bool.{cases_eq, lt-ltb}
 use Rattle.std.proofs.lemmas.List.{get_or-set_same, get_or-set_other, length-append, append-nil}
 use Rattle.gs_enet_wire.specs.declared.datagram.Datagram.{Datagram}
 use Rattle.gs_enet_wire.specs.Grammar.{Spells, spelling}
@@ -10,27 +10,26 @@ use Rattle.gs_enet.specs.declared.event.PeerEvent.{PeerEvent}
 use Rattle.gs_enet.specs.declared.peer.Peer.{Peer}
 use Rattle.gs_enet.specs.declared.send_error.SendError.{SendError}
 use Rattle.gs_enet.specs.declared.send_error.SendError.TheVariants.{NotOpen, WindowFull, OutOfMemory}
-use Rattle.gs_enet.specs.Record.{PeerRecord, Given, channels, given_on, given_count, at_moment}
+use Rattle.gs_enet.specs.Record.{PeerRecord, Given, channels, given_on, at_moment}
 use Rattle.gs_enet.specs.Receive.{taken}
-use Rattle.gs_enet.specs.Steps.{is_open, is_full, can_send, next_number, with_message, closed, timed}
+use Rattle.gs_enet.specs.Steps.{can_send, next_number, with_message, closed, timed}
 use Rattle.gs_enet.specs.Write.{Item, fitting, next_items, wrote_next}
-use Rattle.gs_enet.specs.World.{Written, Side, Send, Close, Time, Write, sent_if, one_written, acted, came}
+use Rattle.gs_enet.specs.World.{Written, Side, Send, Close, Time, sent_if, one_written, acted, came}
 use Rattle.gs_enet.specs.Standing.{StandsFor as IsPeerOf}
 use Rattle.gs_enet.specs.Outcomes as peer
 use Rattle.gs_enet.proofs.Kept.{giving, given_on-own, given_on-apart}
-use Rattle.gs_store.specs.Named.{is_nameable}
 use Rattle.gs_store.specs.Standing.{StandsFor as IsStoreOf}
 use Rattle.gs_sides.specs.declared.side.ControlSide.{ControlSide}
-use Rattle.gs_sides.specs.Known.{datagram_by, bytes_by, IsReadAgain, HoldsAll, HasRecord, HasList}
+use Rattle.gs_sides.specs.Known.{datagram_by, IsReadAgain, HoldsAll, HasRecord}
 use Rattle.gs_sides.specs.Openness.{open_after_all}
 use Rattle.gs_sides.specs.Outcomes.{TellsAll, Sends, Takes, WritesNext}
-use Rattle.gs_enet.specs.Sides.{all_told, new_side}
+use Rattle.gs_enet.specs.Sides.{new_side}
 use Rattle.gs_sides.specs.Standing.{StandsFor}
-use Rattle.gs_sides.specs.Steps.{TellsEvents, WritesBytes, WritesSome, IsNew}
+use Rattle.gs_sides.specs.Steps.{TellsEvents, WritesSome, IsNew}
 use Rattle.gs_sides.proofs.Naming.{IsNamed}
 use Rattle.gs_sides.proofs.Storing.{stores}
 use Rattle.gs_sides.proofs.Ups.{Follows, takes, times, IsClosed, closes}
-use Rattle.gs_sides.proofs.Writings.{Notes, notes}
+use Rattle.gs_sides.proofs.Writings.{notes}
 
 -- ---- events
 

@@ -1,5 +1,5 @@
 -- Events told one after the other.
-use Rattle.std.proofs.Common.{◌≡◌, ◌<◌, ◌≤◌, ℕ, suc, Bool, List, [], ◌∷◌, ◌++◌, length, Option, Some, None, refl, sym, ap, subst, ◌∙◌, arith, inl, inr}
+use Rattle.std.proofs.Common.{◌≡◌, ◌<◌, ◌≤◌, suc, Bool, List, [], ◌∷◌, ◌++◌, length, Option, Some, None, refl, sym, ap, subst, ◌∙◌, arith, inl, inr}
 use Rattle.std.proofs.lemmas.Bool.{cases_lt}
 use Rattle.std.proofs.lemmas.List.{append_assoc, append-nil}
 use Rattle.gs_enet.specs.declared.event.PeerEvent.{PeerEvent}
@@ -10,7 +10,6 @@ use Rattle.gs_enet.specs.Steps.{first_event, telling, told_next}
 use Rattle.gs_enet.specs.Outcomes.{TellsNext}
 use Rattle.gs_sides.specs.Known.{HasRecord}
 use Rattle.gs_sides.specs.Openness.{open_after, open_after_all}
-use Rattle.gs_enet.specs.Sides.{all_told}
 use Rattle.gs_sides.specs.Steps.{TellsEvents}
 
 -- the record once these events are told, and those are left

@@ -1,5 +1,5 @@
 -- Writing one datagram after the other writes all.
-use Rattle.std.proofs.Common.{◌≡◌, ◌≢◌, ◌<◌, ◌≤◌, ◌+◌, ◌-◌, ℕ, zero, suc, max, List, [], ◌∷◌, ◌++◌, length, map, take, drop, Option, Some, None, refl, sym, ap, subst, ◌∙◌, arith, inl, inr}
+use Rattle.std.proofs.Common.{◌≡◌, ◌≢◌, ◌<◌, ◌≤◌, ◌+◌, ◌-◌, ℕ, zero, suc, max, List, [], ◌∷◌, ◌++◌, length, map, take, drop, Some, None, refl, sym, ap, subst, ◌∙◌, arith, inl, inr}
 use Rattle.std.proofs.Math.Seq.{take-append_seam}
 use Rattle.std.proofs.lemmas.Bool.{cases_lt}
 use Rattle.std.proofs.lemmas.List.{length-drop, length-map, length-append, append-nil}
@@ -10,7 +10,7 @@ use Rattle.gs_enet.specs.declared.peer.Peer.{Peer}
 use Rattle.gs_enet.specs.declared.state.PeerState.{PeerState}
 use Rattle.gs_enet.specs.Record.{PeerRecord, Unacknowledged, is_shut, at_moment}
 use Rattle.gs_enet.specs.Standing.{StandsFor as IsPeerOf, held_by}
-use Rattle.gs_enet.specs.Write.{Item, Answers, Orders, due_if, going_out, fitting, next_items, having_written, wrote_next, datagram_of, datagram_if, next_datagram}
+use Rattle.gs_enet.specs.Write.{Item, Answers, Orders, due_if, going_out, fitting, next_items, having_written, wrote_next, datagram_of, datagram_if}
 use Rattle.gs_enet.specs.Outcomes.{WritesDatagram}
 use Rattle.gs_enet.specs.World.{Written, Side, Write, one_written, acted}
 use Rattle.gs_enet.proofs.Outgoing.{having_written-zero, going_out-less}

@@ -1,9 +1,9 @@
 -- What a call of a side did, over a side that the value stood for.
-use Rattle.std.specs.Prelude.{◌≡◌, ◌≢◌, ℕ, ◌-◌, ◌++◌, Bool, true, false, List, [], take, drop, Result, Ok, Err, slice_get}
+use Rattle.std.specs.Prelude.{◌≡◌, ◌≢◌, ℕ, ◌-◌, Bool, true, false, List, [], take, drop, Result, Ok, Err, slice_get}
 use Rattle.gs_enet.specs.declared.event.PeerEvent.{PeerEvent}
 use Rattle.gs_enet.specs.declared.send_error.SendError.{SendError}
 use Rattle.gs_enet.specs.declared.send_error.SendError.TheVariants.{NotOpen, WindowFull, OutOfMemory}
-use Rattle.gs_enet.specs.Record.{PeerRecord, at_moment}
+use Rattle.gs_enet.specs.Record.{at_moment}
 use Rattle.gs_enet.specs.Steps.{is_open, is_full, can_send, next_number}
 use Rattle.gs_enet.specs.Write.{going_out, next_items}
 use Rattle.gs_enet.specs.World.{Side, Send, Write, acted, came}

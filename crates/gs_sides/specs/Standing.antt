@@ -1,6 +1,6 @@
 -- The sides that a value stands for. It has told every event that arose.
 use Rattle.std.specs.Prelude.{◌≡◌, ◌<◌, ℕ, [], slice_index}
-use Rattle.gs_enet.specs.Record.{PeerRecord, channels, given_count}
+use Rattle.gs_enet.specs.Record.{channels, given_count}
 use Rattle.gs_enet.specs.Standing.{StandsFor as IsPeerOf}
 use Rattle.gs_enet.specs.Steps.{is_open}
 use Rattle.gs_enet.specs.World.{Side}

@@ -1,6 +1,5 @@
 mod Examples
 pub mod Growth
-pub mod LoneStream
 pub mod AudioGrowth
 pub mod SentFrames
 pub mod FrameStreams

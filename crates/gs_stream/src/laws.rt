@@ -11,7 +11,7 @@ ghost use Rattle.gs_stream.specs.HandedLaws.{
   IdrFramesThatCameAreHanded,
 };
 ghost use Rattle.gs_stream.specs.Paired.{invalid_ranges};
-ghost use Rattle.gs_stream.specs.StreamLaws.{OnlyGrows, LoneFramesAreADatagramEach};
+ghost use Rattle.gs_stream.specs.StreamLaws.{OnlyGrows};
 ghost use Rattle.gs_stream.specs.Video.{video_stream};
 
 /// Laws: one more entry of a history takes back nothing, neither a datagram that went out nor an audio
@@ -21,12 +21,6 @@ pub fn streams_only_grow()
     ensures audio { (settings : StreamSettings) (ticks : List Tick) → OnlyGrows (audio_stream settings ticks) }
     ensures units { (ticks : List Tick) → OnlyGrows (audio_units ticks) }
     ensures invalid { OnlyGrows invalid_ranges }
-{}
-
-/// A law: where each frame of a history is an IDR frame that fits one packet, without parity, as many
-/// datagrams went out as frames, and the k-th is that of frame k.
-pub fn lone_streams()
-    ensures { LoneFramesAreADatagramEach }
 {}
 
 /// A law: however the datagrams of a history that a host may have were lost, repeated or reordered, and

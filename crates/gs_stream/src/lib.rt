@@ -11,6 +11,4 @@
 
 mod laws;
 
-pub use laws::{
-    frames_that_came_are_complete, handed_frames_were_sent, lone_streams, streams_only_grow,
-};
+pub use laws::{frames_that_came_are_complete, handed_frames_were_sent, streams_only_grow};

@@ -1,4 +1,4 @@
-use Rattle.std.proofs.Common.{◌≡◌, ◌<◌, ◌+◌, ◌++◌, ◌∙◌, ap, length, take, arith}
+use Rattle.std.proofs.Common.{◌≡◌, ◌<◌, ◌++◌, ◌∙◌, ap, length, take, arith}
 use Rattle.std.specs.List.{flat_map}
 use Rattle.gs_tape.specs.Tick.{Tick}
 use Rattle.gs_host_core.specs.Puts.{PutsFront, told}

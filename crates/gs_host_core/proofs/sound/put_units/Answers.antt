@@ -1,4 +1,4 @@
-use Rattle.std.proofs.Common.{◌≡◌, ◌<◌, ◌+◌, ◌++◌, ◌∙◌, length, take, get_or, arith}
+use Rattle.std.proofs.Common.{◌≡◌, ◌<◌, ◌++◌, ◌∙◌, length, take, get_or, arith}
 use Rattle.gs_host_core.specs.Puts.{PutsAll, PutsFront, told}
 use Rattle.gs_host_core.specs.Sounds.{sound_behind}
 use Rattle.gs_host_core.proofs.Lists.{when_err}

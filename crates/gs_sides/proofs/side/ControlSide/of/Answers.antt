@@ -1,4 +1,4 @@
-use Rattle.std.proofs.Common.{refl, [], ◌≡◌}
+use Rattle.std.proofs.Common.{refl, []}
 use Rattle.std.proofs.lemmas.List.{get_or-replicate}
 use Rattle.std.proofs.lemmas.List.Elements.{All-nil}
 use Rattle.gs_sides.specs.Known.{IsReadAgain}

@@ -1,4 +1,4 @@
--- What a message asks of a host's core is what a run's host does about it.
+-- What a message asks for is what is computed of its bytes.
 use Rattle.std.specs.Prelude.{◌==◌, nat_le}
 use Rattle.std.proofs.Common.{◌≡◌, ◌≢◌, ◌≤◌, ◌<◌, ◌⊎◌, inl, inr, ℕ, Bool, true, false, List, drop, length, refl, sym, ap, ◌∙◌}
 use Rattle.std.proofs.lemmas.Bool.{cases_Bool, cases_eq, cond-true, cond-false, eqb-true, eq-eqb, ne_eqb, leb-true, leb-false, le-leb, lt-ltb, le-ltb}
@@ -8,11 +8,10 @@ use Rattle.gs_control.specs.declared.message.Message.{Message}
 use Rattle.gs_control.specs.declared.message.Message.TheVariants as message
 use Rattle.gs_control.specs.Message.{IsMessage, message_kind, kind_in}
 use Rattle.gs_host_core.specs.declared.act.Act.{Act}
-use Rattle.gs_host_core.specs.declared.act.Act.TheVariants as act
+use Rattle.gs_host_core.specs.declared.act.Act.TheVariants.{Invalidate, AskIdr, Input, Nothing}
 use Rattle.gs_host_core.specs.Acts.{IsActOf, act_for}
-use Rattle.gs_run.specs.Message.{Invalidate, AskIdr, Nothing, input_act, range_act, idr_act, act_by, act_of}
-use Rattle.gs_host_end.specs.Acts.{run_act}
-use Rattle.gs_host_end.proofs.Packets.{Packet, of_packet, packet_or_nothing}
+use Rattle.gs_host_core.specs.ActOf.{input_act, range_act, idr_act, act_by, act_of}
+use Rattle.gs_host_core.proofs.Packets.{Packet, of_packet, packet_or_nothing}
 
 kind_is : (bytes : List ℕ) (k : ℕ) → 2 ≤ length bytes → little_from 0 2 bytes ≡ k → kind_in bytes ≡ k
 kind_is bytes k whole is = cond-false _ 0 (little_from 0 2 bytes) (le-ltb (length bytes) 2 whole) ∙ is
@@ -23,10 +22,10 @@ other_kind k p a b c =
     ∙ cond-false (k == 0x0302) (idr_act p) _ (ne_eqb k 0x0302 b)
     ∙ cond-false (k == 0x0206) (input_act p) Nothing (ne_eqb k 0x0206 c)
 
-of_message : (bytes : List ℕ) (m : Message) → IsMessage bytes m → run_act (act_for m) ≡ act_of bytes
+of_message : (bytes : List ℕ) (m : Message) → IsMessage bytes m → act_for m ≡ act_of bytes
 unfolding act_of
 of_message bytes m h = sym (ap (λ k. act_by k (drop 2 bytes)) (kind_is bytes (message_kind m) h.whole h.kind) ∙ done m h) where
-  done : (n : Message) → IsMessage bytes n → act_by (message_kind n) (drop 2 bytes) ≡ run_act (act_for n)
+  done : (n : Message) → IsMessage bytes n → act_by (message_kind n) (drop 2 bytes) ≡ act_for n
   done message.StartA i = refl
   done message.StartB i = refl
   done (message.Invalidate first last) i =
@@ -88,59 +87,21 @@ message_or_nothing bytes = elim (cases_Bool (nat_le 2 (length bytes))) [
   by whole (inr a) (inr b) (inr c) =
       inl (at_kind (little_from 0 2 bytes) whole refl ∙ other_kind (little_from 0 2 bytes) (drop 2 bytes) a b c)
 
--- ---- the two acts
+-- ---- the act of a message's bytes
 
 -- what isn't Nothing is of a message
-some_act : (bytes : List ℕ) (a : Act) → IsActOf bytes a → act_of bytes ≡ Nothing → (run_act a ≡ Nothing → ⊥) → ⊥
-some_act bytes a h none is =
-    is (ap run_act (h.other (λ m i. is (ap run_act (h.read m i) ∙ of_message bytes m i ∙ none))))
+some_act : (bytes : List ℕ) (a : Act) → IsActOf bytes a → act_of bytes ≡ Nothing → (a ≡ Nothing → ⊥) → ⊥
+some_act bytes a h none is = is (h.other (λ m i. is (h.read m i ∙ of_message bytes m i ∙ none)))
 
-nothing_done : (bytes : List ℕ) (a : Act) → IsActOf bytes a → act_of bytes ≡ Nothing → run_act a ≡ Nothing
-nothing_done bytes act.Nothing h none = refl
-nothing_done bytes (act.Invalidate first last) h none = absurd (some_act bytes (act.Invalidate first last) h none (λ e. cc e))
-nothing_done bytes act.AskIdr h none = absurd (some_act bytes act.AskIdr h none (λ e. cc e))
-nothing_done bytes (act.Input event) h none = absurd (some_act bytes (act.Input event) h none (λ e. cc e))
+nothing_done : (bytes : List ℕ) (a : Act) → IsActOf bytes a → act_of bytes ≡ Nothing → a ≡ Nothing
+nothing_done bytes Nothing h none = refl
+nothing_done bytes (Invalidate first last) h none = absurd (some_act bytes (Invalidate first last) h none (λ e. cc e))
+nothing_done bytes AskIdr h none = absurd (some_act bytes AskIdr h none (λ e. cc e))
+nothing_done bytes (Input event) h none = absurd (some_act bytes (Input event) h none (λ e. cc e))
 
--- the act of a message's bytes is the one that a run names
-pub same_act : (bytes : List ℕ) (a : Act) → IsActOf bytes a → run_act a ≡ act_of bytes
+-- it is the one that is computed of them
+pub same_act : (bytes : List ℕ) (a : Act) → IsActOf bytes a → a ≡ act_of bytes
 same_act bytes a h = elim (message_or_nothing bytes) [
   | inl none ↦ nothing_done bytes a h none ∙ sym none
-  | inr found ↦ ap run_act (h.read found.0 found.1) ∙ of_message bytes found.0 found.1
+  | inr found ↦ h.read found.0 found.1 ∙ of_message bytes found.0 found.1
 ]
-
--- every message has an act
-run_act-once : (a b : Act) → run_act a ≡ run_act b → a ≡ b
-run_act-once act.Nothing act.Nothing e = refl
-run_act-once act.AskIdr act.AskIdr e = refl
-run_act-once (act.Input x) (act.Input y) e = cc
-run_act-once (act.Invalidate p q) (act.Invalidate r s) e = cc
-run_act-once act.Nothing act.AskIdr e = absurd cc
-run_act-once act.Nothing (act.Input y) e = absurd cc
-run_act-once act.Nothing (act.Invalidate r s) e = absurd cc
-run_act-once act.AskIdr act.Nothing e = absurd cc
-run_act-once act.AskIdr (act.Input y) e = absurd cc
-run_act-once act.AskIdr (act.Invalidate r s) e = absurd cc
-run_act-once (act.Input x) act.Nothing e = absurd cc
-run_act-once (act.Input x) act.AskIdr e = absurd cc
-run_act-once (act.Input x) (act.Invalidate r s) e = absurd cc
-run_act-once (act.Invalidate p q) act.Nothing e = absurd cc
-run_act-once (act.Invalidate p q) act.AskIdr e = absurd cc
-run_act-once (act.Invalidate p q) (act.Input y) e = absurd cc
-
-pub an_act : (bytes : List ℕ) → (a : Act) × IsActOf bytes a
-an_act bytes = by (message_or_nothing bytes) where
-  by : (act_of bytes ≡ Nothing) ⊎ Readable bytes → (a : Act) × IsActOf bytes a
-  by (inl none) = (
-    act.Nothing,
-    record {
-      read = λ m i. run_act-once act.Nothing (act_for m) (sym (of_message bytes m i ∙ none));
-      other = λ never. refl;
-    },
-  )
-  by (inr found) = (
-    act_for found.0,
-    record {
-      read = λ m i. run_act-once (act_for found.0) (act_for m) (of_message bytes found.0 found.1 ∙ sym (of_message bytes m i));
-      other = λ never. absurd (never found.0 found.1);
-    },
-  )

@@ -5,7 +5,9 @@ use Rattle.std.proofs.lemmas.Bool.{cases_Bool, eqb-true, eq-eqb, leb-true, le-le
 use Rattle.gs_input.specs.declared.event.Event.{Event}
 use Rattle.gs_input.specs.declared.event.Event.TheVariants as event
 use Rattle.gs_input.specs.Packet.{IsPacket, has_size, magic_in, body_length, has_length}
-use Rattle.gs_run.specs.Message.{Act as RunAct, Input, Nothing, event_by, input_act}
+use Rattle.gs_host_core.specs.declared.act.Act.{Act}
+use Rattle.gs_host_core.specs.declared.act.Act.TheVariants.{Input, Nothing}
+use Rattle.gs_host_core.specs.ActOf.{event_by, input_act}
 
 -- the third test of a packet, by its magic and its ninth byte
 abbrev bad_at : ℕ → ℕ → Bool
@@ -14,24 +16,24 @@ bad_at magic byte = (magic == 8 || magic == 9) && not (nat_le 1 byte && nat_le b
 abbrev fault_by : Bool → Bool → Bool → Option ℕ
 fault_by size sized bad = if not size then Some 0 else if not sized then Some 4 else if bad then Some 8 else None
 
-abbrev unless_fault : Bool → Bool → Bool → RunAct → RunAct
+abbrev unless_fault : Bool → Bool → Bool → Act → Act
 unless_fault size sized bad done = if is_none (fault_by size sized bad) then done else Nothing
 
 -- what is done about a packet, by its magic
-abbrev act_at : ℕ → List ℕ → RunAct
+abbrev act_at : ℕ → List ℕ → Act
 act_at magic p =
     unless_fault (has_size p) (has_length (body_length magic) p) (bad_at magic (slice_index p 8)) (Input (event_by magic p))
 
 by_magic : (p : List ℕ) → input_act p ≡ act_at (magic_in p) p
 by_magic p = refl
 
-no_fault : (a b c : Bool) (x : RunAct) → a ≡ true → b ≡ true → c ≡ false → unless_fault a b c x ≡ x
+no_fault : (a b c : Bool) (x : Act) → a ≡ true → b ≡ true → c ≡ false → unless_fault a b c x ≡ x
 no_fault true true false x e f g = refl
 no_fault false b c x e f g = absurd cc
 no_fault true false c x e f g = absurd cc
 no_fault true true true x e f g = absurd cc
 
-some_fault : (a b c : Bool) (x : RunAct) → (a ≡ false) ⊎ ((b ≡ false) ⊎ (c ≡ true)) → unless_fault a b c x ≡ Nothing
+some_fault : (a b c : Bool) (x : Act) → (a ≡ false) ⊎ ((b ≡ false) ⊎ (c ≡ true)) → unless_fault a b c x ≡ Nothing
 some_fault false b c x h = refl
 some_fault true false c x h = refl
 some_fault true true true x h = refl
