@@ -1,6 +1,6 @@
 // What a client's user does.
 
-ghost use Rattle.std.specs.Prelude.{◌≡◌, ◌≤◌, ◌<◌, ℕ, length, IfOk};
+ghost use Rattle.std.specs.Prelude.{false, ◌≡◌, ◌≤◌, ◌<◌, ℕ, length, IfOk};
 ghost use Rattle.gs_input.specs.Event.{HasButton, IsKnown};
 ghost use Rattle.gs_enet.specs.Record.{channels, most_message};
 ghost use Rattle.gs_run.specs.Session.{Part};
@@ -95,8 +95,9 @@ impl ClientEnd {
     /// Closes the connection once everything that was sent is acknowledged. Answers false, and does nothing, where it
     /// is closed or lost.
     pub fn close(&mut self) -> bool
-        ensures { (session : ℕ) (part : Part) → StandsFor self.old session part
+        ensures closes { (session : ℕ) (part : Part) → StandsFor self.old session part
             → Closes session part result self.new }
+        ensures same { result ≡ false → self.new ≡ self.old }
     {
         if !self.is_open() {
             return false;

@@ -52,7 +52,7 @@ input_by false event = tt
 not_short : (n : ℕ) → 2 ≤ n → nat_lt n 2 ≡ false
 not_short n long = grind (arith, nat_tests)
 
-kind_of_input : (event : Event) → kind_in (bytes_of (message.Input event)) ≡ 0x0206
+pub kind_of_input : (event : Event) → kind_in (bytes_of (message.Input event)) ≡ 0x0206
 kind_of_input event =
     cond-false (nat_lt (length (bytes_of (message.Input event))) 2) 0 (little_from 0 2 (bytes_of (message.Input event)))
     (not_short (length (bytes_of (message.Input event))) (omega arith))

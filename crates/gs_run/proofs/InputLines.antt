@@ -48,7 +48,7 @@ use Rattle.gs_run.proofs.Reporting.{of_kind, of_kind-append, IsQuiet, one_passed
 use Rattle.gs_run.proofs.PartLines.{IsOf, Tells, unchanged, none_owned, down_lines, turn_lines, given_lines, close_lines}
 use Rattle.gs_run.proofs.StateLines.{reports_of}
 
-abbrev inputs : ℕ → Part → List Report
+abbrev pub inputs : ℕ → Part → List Report
 inputs n part = map (input_report n) (inputs_of part)
 
 abbrev pick : ℕ → ToldInput → List Report
@@ -348,7 +348,7 @@ opened_inputs n session now settings =
 
 -- ---- the law
 
-tells_inputs : Tells is_input inputs
+pub tells_inputs : Tells is_input inputs
 tells_inputs = record {
   deed = deed_inputs;
   at_time = time_inputs;

@@ -24,3 +24,12 @@ pub mod Pumps
 pub mod StepsDecided
 pub mod SomeRun
 pub mod InputLines
+pub mod DoneRuns
+pub mod Captures
+pub mod HostLines
+pub mod OneParts
+pub mod ToldEvents
+pub mod InputActs
+pub mod ProperDeeds
+pub mod UserEvents
+pub mod HoldingRuns

@@ -64,7 +64,7 @@ here_replaced [] k old new e = absurd cc
 here_replaced (s ∷ sessions) zero old new e = refl
 here_replaced (s ∷ sessions) (suc k) old new e = here_replaced sessions k old new e
 
-others_stay : (sessions : List Session) (k j : ℕ) (new : Session) → (j ≡ k → ⊥) → slice_get (replaced sessions k new) j ≡ slice_get sessions j
+pub others_stay : (sessions : List Session) (k j : ℕ) (new : Session) → (j ≡ k → ⊥) → slice_get (replaced sessions k new) j ≡ slice_get sessions j
 others_stay [] k j new apart = refl
 others_stay (s ∷ sessions) zero zero new apart = absurd (apart refl)
 others_stay (s ∷ sessions) zero (suc j) new apart = refl
@@ -74,7 +74,7 @@ others_stay (s ∷ sessions) (suc k) (suc j) new apart = others_stay sessions k 
 -- ---- what the lines are
 
 -- what the session of a number gives, if there is one
-abbrev given_at : (ℕ → Part → List Report) → ℕ → Option Session → List Report
+abbrev pub given_at : (ℕ → Part → List Report) → ℕ → Option Session → List Report
 given_at give n None = []
 given_at give n (Some session) = over_parts (give n) session
 
@@ -283,14 +283,16 @@ ran_lines kind give tells file (d ∷ ds) state reports are =
     by None more = λ n. ap (lines_of kind n) (sym (append_assoc reports (after file d state).reports (ran file ds
         (after file d state).value).reports)) ∙ more n
 
--- from the start
+-- from the start, for every number
+pub all_reports_of : (kind : Output → Bool) (give : ℕ → Part → List Report) → Tells kind give → (file : CaptureFile) (ds : List Deed) (n : ℕ)
+    → lines_of kind n (ran file ds start).reports ≡ given_at give n (session_numbered (ran file ds start).state n)
+all_reports_of kind give tells file ds n = ran_lines kind give tells file ds start [] starts n where
+  starts : (n : ℕ) → lines_of kind n [] ≡ given_at give n (session_numbered start n)
+  starts zero = refl
+  starts (suc j) = refl
+
 pub reports_of : (kind : Output → Bool) (give : ℕ → Part → List Report) → Tells kind give → RunsReport kind give
-reports_of kind give tells file ds number session there =
-    ran_lines kind give tells file ds start [] starts number ∙ ap (given_at give number) there
-  where
-    starts : (n : ℕ) → lines_of kind n [] ≡ given_at give n (session_numbered start n)
-    starts zero = refl
-    starts (suc j) = refl
+reports_of kind give tells file ds number session there = all_reports_of kind give tells file ds number ∙ ap (given_at give number) there
 
 pub runs_report_handed : RunsReportHanded
 runs_report_handed = reports_of is_hand _ tells_hands

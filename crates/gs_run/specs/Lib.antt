@@ -20,3 +20,5 @@ pub mod Run
 pub mod Generated
 pub mod RunLaws
 pub mod ReportLaws
+pub mod UserEvents
+pub mod WholeRun

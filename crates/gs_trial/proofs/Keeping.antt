@@ -1,6 +1,6 @@
 -- The ticks that the sessions of a trial want are kept.
-use Rattle.std.proofs.Common.{◌≡◌, ◌-◌, ◌<◌, ◌≤◌, ◌⊎◌, ℕ, Bool, true, false, cond, List, length, max, Some, None, refl, sym}
-use Rattle.std.proofs.Common.{subst, ◌∙◌, arith, inl, inr}
+use Rattle.std.proofs.Common.{◌≡◌, ◌<◌, ◌≤◌, ◌⊎◌, ℕ, Bool, true, false, cond, List, length, max, Some, None, refl, sym}
+use Rattle.std.proofs.Common.{ap, subst, ◌∙◌, arith, inl, inr}
 use Rattle.std.specs.Prelude.{IfSome, slice_index_or, slice_set, ◌==◌}
 use Rattle.std.specs.List.{All}
 use Rattle.std.proofs.lemmas.Bool.{eqb-true}
@@ -13,6 +13,7 @@ use Rattle.gs_host_end.specs.Outcomes.{KeepsTicks, SentNothing, tick_sent}
 use Rattle.gs_loopback.specs.declared.session.Loopback.{Loopback}
 use Rattle.gs_trial.specs.declared.trial.Trial.{Trial}
 use Rattle.gs_trial.specs.Standing.{IsReady}
+use Rattle.gs_trial.specs.Running.{IsSameButText}
 
 -- where no frame was sent
 pub keeps_sent : (feed : Feeding) (old new : HostEnd) → SentNothing old new → KeepsTicks feed old → KeepsTicks feed new
@@ -51,6 +52,10 @@ ready_kept old new feed sessions ready = record {
   keep = subst (λ (ls : List Loopback). All (λ l. KeepsTicks new.feed l.host) ls) (sym sessions)
       (subst (λ (f : Feeding). All (λ l. KeepsTicks f l.host) old.sessions.items) (sym feed) ready.keep);
 }
+
+-- with other text that waits
+pub ready_still : (old new : Trial) → IsSameButText old new → IsReady old → IsReady new
+ready_still old new same ready = ready_kept old new same.feed (ap (λ v. v.items) same.sessions) ready
 
 -- a session in place of another, whose ticks are kept
 pub ready_with : (old new : Trial) (place : ℕ) (now : Loopback) → new.feed ≡ old.feed

@@ -1,16 +1,18 @@
 -- Steps that were run, and those that are left.
 use Rattle.std.proofs.Common.{◌≡◌, ◌+◌, ◌-◌, ◌^◌, ◌||◌, ◌⊎◌, ℕ, Bool, true, false, cond, List, [], ◌∷◌, ◌++◌, length, Option, Some, None}
-use Rattle.std.proofs.Common.{Result, Ok, Err, refl, sym, ap, subst, arith, append-nil, append_assoc, inl, inr}
+use Rattle.std.proofs.Common.{Result, Ok, Err, refl, sym, ap, subst, arith, append-nil, append_assoc, inl, inr, ◌∙◌}
 use Rattle.std.specs.Prelude.{MatchBool, nat_lt, ◌==◌}
 use Rattle.std.specs.Io.KnownBytes.{Appends}
-use Rattle.std.proofs.KnownBytes.{Appends-nil, Appends-trans}
 use Rattle.std.proofs.lemmas.Bool.{ltb-true, eqb-true}
+use Rattle.gs_feed.specs.Feeding.{Feeding}
+use Rattle.gs_loopback.specs.declared.session.Loopback.{Loopback}
 use Rattle.gs_command.specs.declared.command.Detail.{Detail}
 use Rattle.gs_schedule.specs.declared.step.Step.{Step}
 use Rattle.gs_schedule.specs.declared.line.Line.{Line}
 use Rattle.gs_schedule.specs.declared.status.TrialStatus.{TrialStatus}
 use Rattle.gs_schedule.specs.declared.status.TrialStatus.TheVariants as status
 use Rattle.gs_schedule.specs.Lines.{most_line, next_line}
+use Rattle.gs_report.specs.Reporting.{Reporting, with_reports}
 use Rattle.gs_run.specs.CaptureFile.{CaptureFile}
 use Rattle.gs_run.specs.Session.{State}
 use Rattle.gs_run.specs.Report.{Report, text_of}
@@ -19,10 +21,12 @@ use Rattle.gs_run.specs.Refusal.{Refusal}
 use Rattle.gs_run.specs.Done.{Ran, ran}
 use Rattle.gs_run.specs.Line.{AreDeeds, HasStep}
 use Rattle.gs_run.specs.Run.{Run, behind, refusal_status, stopped, RunsFrom, RunsOn}
-use Rattle.gs_trial.specs.Trial.{WritesFront, WritesRun, is_of_run}
-use Rattle.gs_trial.specs.Running.{EndsRun, EndsStep, IsRefused, Leads}
-use Rattle.gs_trial.proofs.SomeRun.{lines_some}
-use Rattle.gs_trial.proofs.Texts.{text-append, front_none, front_behind, front_longer}
+use Rattle.gs_trial.specs.declared.trial.Trial.{Trial}
+use Rattle.gs_trial.specs.Standing.{AreSessions, IsFeedOf, StandsFor}
+use Rattle.gs_trial.specs.Trial.{WritesFront, is_of_run}
+use Rattle.gs_trial.specs.Running.{EndsRun, EndsStep, IsRefused, IsSameButText, Leads, LedTo, WritesBehind, WritesUpTo}
+use Rattle.gs_run.proofs.SomeRun.{lines_some}
+use Rattle.gs_trial.proofs.Texts.{all_behind, front_longer, front_on, more_text, up_to_none, with_none}
 
 pub match_more : (b : Bool) (P Q P' Q' : Type 0) → (P → P') → (Q → Q') → MatchBool b P Q → MatchBool b P' Q'
 match_more true P Q P' Q' p q m = p m
@@ -55,81 +59,117 @@ leads_step Has file n x xs s step deeds has are all = record {
       (Some step, has, (deeds, are, subst (λ (o : Option Refusal). RunsOn n o did Rest (behind did.reports run)) (sym all) (run, runs, refl)));
 }
 
+-- nothing was run yet
+pub led_none : {A : Type 0} (Has : ℕ → A → Option Step → Type 0) (file : CaptureFile) (n : ℕ) (xs : List A) (s : State) (a : Option (List ℕ)) (trial : Trial)
+    (left : Option (List ℕ)) → StandsFor trial file left s → LedTo Has trial.reporter file n xs s a a n xs trial left
+led_none Has file n xs s a trial left stands = record {
+  reached = s;
+  reports = [];
+  run = leads_none Has file n xs s;
+  stands = stands;
+  detail_is = refl;
+  writes = subst (λ (r : Reporting). WritesUpTo a a r.text trial.reporter.text) (sym (with_none trial.reporter)) (up_to_none a trial.reporter.text);
+}
+
+-- another trial of the same
+pub same_stands : (mid new : Trial) (file : CaptureFile) (left : Option (List ℕ)) (state : State) → IsSameButText mid new → StandsFor mid file left state
+    → StandsFor new file left state
+same_stands mid new file left state same stands =
+    let items : new.sessions.items ≡ mid.sessions.items = ap (λ v. v.items) same.sessions in
+    record {
+      feed = subst (λ (f : Feeding). IsFeedOf f file left) (sym same.feed) stands.feed;
+      captured = ap (λ (f : Feeding). f.count) same.feed ∙ stands.captured;
+      moment = same.moment ∙ stands.moment;
+      sessions = subst (λ (ls : List Loopback). AreSessions file.ticks 1 ls state.sessions) (sym items) stands.sessions;
+    }
+
 -- ---- how a run ends
 
+pub by_answer : (before : Reporting) (run : Run) (a b : Option (List ℕ)) (answer : TrialStatus) (x : Bool) → is_of_run answer ≡ x
+    → MatchBool x ((run.status ≡ answer) × Appends a b (with_reports before run.reports).text) (WritesFront a b (with_reports before run.reports).text)
+    → WritesBehind before run a b answer
+by_answer before run a b answer x is w =
+    subst (λ (y : Bool). MatchBool y ((run.status ≡ answer) × Appends a b (with_reports before run.reports).text)
+    (WritesFront a b (with_reports before run.reports).text)) (sym is) w
+
+-- at most what waited was written
+pub front_of : (before : Reporting) (run : Run) (a b : Option (List ℕ)) (answer : TrialStatus) → is_of_run answer ≡ false → WritesFront a b before.text
+    → WritesBehind before run a b answer
+front_of before run a b answer not wrote =
+    by_answer before run a b answer false not (front_longer a b before.text (text_of before.detail run.reports) wrote)
+
 -- behind what was run
-pub ends_behind : {A : Type 0} (Has : ℕ → A → Option Step → Type 0) (detail : Detail) (file : CaptureFile) (n m : ℕ) (xs ys : List A) (s t : State)
-    (rs : List Report)
-    (a b c : Option (List ℕ)) (answer : TrialStatus) → Leads Has file n xs s rs m ys t → Appends a b (text_of detail rs)
-    → EndsRun Has detail file m ys t b c answer → EndsRun Has detail file n xs s a c answer
-ends_behind Has detail file n m xs ys s t rs a b c answer led wrote ends =
+pub ends_behind : {A : Type 0} (Has : ℕ → A → Option Step → Type 0) (before here : Reporting) (file : CaptureFile) (n m : ℕ) (xs ys : List A) (s t : State)
+    (rs : List Report) (a b c : Option (List ℕ)) (answer : TrialStatus) → Leads Has file n xs s rs m ys t → here.detail ≡ before.detail
+    → WritesUpTo a b (with_reports before rs).text here.text → EndsRun Has here file m ys t b c answer → EndsRun Has before file n xs s a c answer
+ends_behind Has before here file n m xs ys s t rs a b c answer led same wrote ends =
     let run = ends.run in
-    let whole : text_of detail (rs ++ run.reports) ≡ text_of detail rs ++ text_of detail run.reports = text-append detail rs run.reports in
+    let more = text_of before.detail run.reports in
+    let whole = more_text before rs run.reports in
+    let end : MatchBool (is_of_run answer) ((run.status ≡ answer) × Appends b c (here.text ++ more)) (WritesFront b c (here.text ++ more)) =
+    subst (λ (d : Detail). MatchBool (is_of_run answer) ((run.status ≡ answer) × Appends b c (here.text ++ text_of d run.reports))
+    (WritesFront b c (here.text ++ text_of d run.reports))) same ends.writes in
     record {
       run = behind rs run;
       runs = led.leads run ends.runs;
       writes = match_more (is_of_run answer) _ _ _ _
-          (λ p. (p.0, subst (Appends a c) (sym whole) (Appends-trans a b c (text_of detail rs) (text_of detail run.reports) wrote p.1)))
-          (λ q. subst (WritesFront a c) (sym whole) (front_behind a b c (text_of detail rs) (text_of detail run.reports) wrote q))
-          ends.writes;
+          (λ p. (p.0, subst (Appends a c) whole (all_behind a b c (with_reports before rs).text here.text more wrote p.1)))
+          (λ q. subst (WritesFront a c) whole (front_on a b c (with_reports before rs).text here.text more wrote q))
+          end;
     }
 
--- with the answer that isn't the run's nothing more was written
-pub ends_quietly : (detail : Detail) (file : CaptureFile) (n : ℕ) (xs : List (List ℕ)) (s : State) (a : Option (List ℕ)) (answer : TrialStatus)
-    → is_of_run answer ≡ false → EndsRun HasStep detail file n xs s a a answer
-ends_quietly detail file n xs s a answer not =
+-- with an answer that isn't the run's at most what waited was written
+pub ends_front : (before : Reporting) (file : CaptureFile) (n : ℕ) (xs : List (List ℕ)) (s : State) (a c : Option (List ℕ)) (answer : TrialStatus)
+    → is_of_run answer ≡ false → WritesFront a c before.text → EndsRun HasStep before file n xs s a c answer
+ends_front before file n xs s a c answer not wrote =
     let run = lines_some file n xs s in
-    let P = (run.0.status ≡ answer) × Appends a a (text_of detail run.0.reports) in
-    let Q = WritesFront a a (text_of detail run.0.reports) in
-    record {
-      run = run.0;
-      runs = run.1;
-      writes = subst (λ (b : Bool). MatchBool b P Q) (sym not) (front_none a (text_of detail run.0.reports));
-    }
+    record { run = run.0; runs = run.1; writes = front_of before run.0 a c answer not wrote }
 
 -- a line that has no step
-pub ends_bad : (detail : Detail) (file : CaptureFile) (n : ℕ) (x : List ℕ) (xs : List (List ℕ)) (s : State) (a : Option (List ℕ)) → HasStep n x None
-    → EndsRun HasStep detail file n (x ∷ xs) s a a (status.BadSchedule n)
-ends_bad detail file n x xs s a has = record {
+pub ends_bad : (before : Reporting) (file : CaptureFile) (n : ℕ) (x : List ℕ) (xs : List (List ℕ)) (s : State) (a c : Option (List ℕ))
+    (answer : TrialStatus) → HasStep n x None → WritesBehind before (stopped (status.BadSchedule n) s) a c answer
+    → EndsRun HasStep before file n (x ∷ xs) s a c answer
+ends_bad before file n x xs s a c answer has wrote = record {
   run = stopped (status.BadSchedule n) s;
   runs = (None, has, refl);
-  writes = (refl, Appends-nil a);
+  writes = wrote;
 }
 
 -- the run behind deeds of which one was refused, or of which it isn't known
-step_end : (detail : Detail) (Rest : State → Run → Type 0) → ((t : State) → (run : Run) × Rest t run) → (did : Ran) (refused : Option Refusal) (n : ℕ)
+step_end : (before : Reporting) (Rest : State → Run → Type 0) → ((t : State) → (run : Run) × Rest t run) → (did : Ran) (refused : Option Refusal) (n : ℕ)
     (a c : Option (List ℕ)) (answer : TrialStatus) (b : Bool) → is_of_run answer ≡ b
-    → MatchBool b (IsRefused n refused answer × Appends a c (text_of detail did.reports)) (WritesFront a c (text_of detail did.reports))
-    → (run : Run) × RunsOn n refused did Rest run × WritesRun detail run a c answer
-step_end detail Rest more did (Some why) n a c answer true eq w =
+    → MatchBool b (IsRefused n refused answer × Appends a c (with_reports before did.reports).text) (WritesFront a c (with_reports before did.reports).text)
+    → (run : Run) × RunsOn n refused did Rest run × WritesBehind before run a c answer
+step_end before Rest more did (Some why) n a c answer true eq w =
     let run = behind did.reports (stopped (refusal_status n why) did.state) in
-    let P = (run.status ≡ answer) × Appends a c (text_of detail run.reports) in
-    let Q = WritesFront a c (text_of detail run.reports) in
-    let text : Appends a c (text_of detail run.reports) = subst (λ (l : List Report). Appends a c (text_of detail l)) (sym (append-nil did.reports)) w.1 in
+    let P = (run.status ≡ answer) × Appends a c (with_reports before run.reports).text in
+    let Q = WritesFront a c (with_reports before run.reports).text in
+    let text : Appends a c (with_reports before run.reports).text =
+    subst (λ (l : List Report). Appends a c (with_reports before l).text) (sym (append-nil did.reports)) w.1 in
     (run, refl, subst (λ (b : Bool). MatchBool b P Q) (sym eq) (w.0, text))
-step_end detail Rest more did None n a c answer true eq w = absurd w.0
-step_end detail Rest more did (Some why) n a c answer false eq w =
+step_end before Rest more did None n a c answer true eq w = absurd w.0
+step_end before Rest more did (Some why) n a c answer false eq w =
     let run = behind did.reports (stopped (refusal_status n why) did.state) in
-    let P = (run.status ≡ answer) × Appends a c (text_of detail run.reports) in
-    let Q = WritesFront a c (text_of detail run.reports) in
-    let text : Q = subst (λ (l : List Report). WritesFront a c (text_of detail l)) (sym (append-nil did.reports)) w in
+    let P = (run.status ≡ answer) × Appends a c (with_reports before run.reports).text in
+    let Q = WritesFront a c (with_reports before run.reports).text in
+    let text : Q = subst (λ (l : List Report). WritesFront a c (with_reports before l).text) (sym (append-nil did.reports)) w in
     (run, refl, subst (λ (b : Bool). MatchBool b P Q) (sym eq) text)
-step_end detail Rest more did None n a c answer false eq w =
+step_end before Rest more did None n a c answer false eq w =
     let rest = more did.state in
     let run = behind did.reports rest.0 in
-    let P = (run.status ≡ answer) × Appends a c (text_of detail run.reports) in
-    let Q = WritesFront a c (text_of detail run.reports) in
-    let text : Q = subst (WritesFront a c) (sym (text-append detail did.reports rest.0.reports))
-    (front_longer a c (text_of detail did.reports) (text_of detail rest.0.reports) w) in
+    let P = (run.status ≡ answer) × Appends a c (with_reports before run.reports).text in
+    let Q = WritesFront a c (with_reports before run.reports).text in
+    let text : Q = subst (WritesFront a c) (more_text before did.reports rest.0.reports)
+    (front_longer a c (with_reports before did.reports).text (text_of before.detail rest.0.reports) w) in
     (run, (rest.0, rest.1, refl), subst (λ (b : Bool). MatchBool b P Q) (sym eq) text)
 
 -- a step of which a deed was refused, or that wasn't run whole
-pub ends_step : {A : Type 0} (Has : ℕ → A → Option Step → Type 0) (detail : Detail) (file : CaptureFile) (n : ℕ) (x : A) (xs : List A) (s : State) (step : Step)
-    (a c : Option (List ℕ)) (answer : TrialStatus) → ((t : State) → (run : Run) × RunsFrom Has file (n + 1) xs t run) → Has n x (Some step)
-    → EndsStep detail file n step s a c answer → EndsRun Has detail file n (x ∷ xs) s a c answer
-ends_step Has detail file n x xs s step a c answer rest has ends =
+pub ends_step : {A : Type 0} (Has : ℕ → A → Option Step → Type 0) (before : Reporting) (file : CaptureFile) (n : ℕ) (x : A) (xs : List A) (s : State)
+    (step : Step) (a c : Option (List ℕ)) (answer : TrialStatus) → ((t : State) → (run : Run) × RunsFrom Has file (n + 1) xs t run) → Has n x (Some step)
+    → EndsStep before file n step s a c answer → EndsRun Has before file n (x ∷ xs) s a c answer
+ends_step Has before file n x xs s step a c answer rest has ends =
     let did = ran file ends.deeds s in
-    let end = step_end detail (RunsFrom Has file (n + 1) xs) rest did did.refused n a c answer (is_of_run answer) refl ends.writes in
+    let end = step_end before (RunsFrom Has file (n + 1) xs) rest did did.refused n a c answer (is_of_run answer) refl ends.writes in
     record { run = end.0; runs = (Some step, has, (ends.deeds, ends.are_deeds, end.1)); writes = end.2 }
 
 -- ---- the next line

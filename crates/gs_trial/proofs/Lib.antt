@@ -4,7 +4,6 @@ pub mod InSessions
 pub mod SessionLists
 pub mod Timers
 pub mod Sums
-pub mod SomeRun
 pub mod Leading
 pub mod Acting
 pub mod OneDeed
@@ -18,9 +17,11 @@ pub mod Results
 pub mod RunLines
 pub mod Proper
 pub mod Scripts
+pub mod Completing
 pub mod Commands
 pub mod ReadAgain
 pub mod OfSteps
 pub mod GeneratedSteps
 pub mod Copies
 pub mod Made
+pub mod Heads

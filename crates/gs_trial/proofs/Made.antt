@@ -4,23 +4,23 @@ use Rattle.gs_tape.specs.Capture.{file}
 use Rattle.gs_tape.specs.Generated.{generated}
 use Rattle.gs_tape.specs.Reading.{Read, read, audio_length, audio_duration}
 use Rattle.gs_feed.specs.Feeding.{Feeding, Opens, StandsFor as IsReadingOf}
-use Rattle.gs_command.specs.declared.command.Detail.{Detail}
 use Rattle.gs_command.specs.declared.command.Detail.TheVariants.{Sums}
 use Rattle.gs_schedule.specs.declared.status.TrialStatus.{TrialStatus}
 use Rattle.gs_schedule.specs.declared.status.TrialStatus.TheVariants as status
 use Rattle.gs_schedule.specs.declared.step.Step.{Step}
+use Rattle.gs_report.specs.Reporting.{Reporting}
 use Rattle.gs_run.specs.CaptureFile.{CaptureFile, generated_file}
 use Rattle.gs_run.specs.Generated.{generated_steps}
+use Rattle.gs_run.specs.WholeRun.{GeneratedRunsHold}
 use Rattle.gs_run.specs.Run.{IsStep, finished}
 use Rattle.gs_run.specs.Session.{State, start}
 use Rattle.gs_trial.specs.declared.trial.Trial.{Trial}
 use Rattle.gs_trial.specs.Standing.{IsFeedOf, StandsFor}
-use Rattle.gs_trial.specs.Running.{EndsRun, LedTo}
-use Rattle.gs_trial.specs.Trial.{AnswersMake, WritesRun}
-use Rattle.gs_trial.proofs.Leading.{ends_behind}
+use Rattle.gs_trial.specs.Running.{EndsRun, LedTo, WritesBehind}
+use Rattle.gs_trial.specs.Trial.{AnswersMake}
 use Rattle.gs_trial.proofs.OfSteps.{steps_some}
 use Rattle.gs_trial.proofs.ReadAgain.{audio_is, duration_is, read_again}
-use Rattle.gs_trial.proofs.Scripts.{quiet}
+use Rattle.gs_trial.proofs.Scripts.{finishes, quiet}
 
 -- the feed of the file
 pub made_feed : (number ticks : ℕ) (bytes : List ℕ) (feed : Feeding) (left : Option (List ℕ)) → ticks ≤ 2000 → bytes ≡ file 240 5 (generated number ticks)
@@ -35,47 +35,46 @@ made_feed number ticks bytes feed left few is opens =
     }
 
 -- nothing was written
-pub unmade : (number ticks : ℕ) (a : Option (List ℕ)) → AnswersMake number ticks a a status.OutOfMemory
-unmade number ticks a =
+pub unmade : GeneratedRunsHold → (number ticks : ℕ) → ticks ≤ 2000 → (a : Option (List ℕ)) → AnswersMake number ticks a a status.OutOfMemory
+unmade hold number ticks few a =
     let some = steps_some (generated_file number ticks) 1 (generated_steps ticks) start in
-    record { run = some.0; is_run = some.1; writes = quiet Sums some.0 a status.OutOfMemory refl }
+    record { run = some.0; is_run = some.1; writes = quiet Sums some.0 a status.OutOfMemory refl; holds = hold number ticks some.0 few some.1 }
 
-ends : (number ticks : ℕ) (a b : Option (List ℕ)) (answer : TrialStatus) → EndsRun IsStep Sums (generated_file number ticks) 1
-    (generated_steps ticks) start a b answer
+ends : GeneratedRunsHold → (number ticks : ℕ) → ticks ≤ 2000 → (a b : Option (List ℕ)) (answer : TrialStatus) → EndsRun IsStep (record { detail = Sums; text = [] })
+    (generated_file number ticks) 1 (generated_steps ticks) start a b answer
     → AnswersMake number ticks a b answer
-ends number ticks a b answer e = record { run = e.run; is_run = e.runs; writes = e.writes }
+ends hold number ticks few a b answer e =
+    record { run = e.run; is_run = e.runs; writes = e.writes; holds = hold number ticks e.run few e.runs }
 
 -- a step ended it
-pub make_ends : (number ticks : ℕ) (detail : Detail) (bytes : List ℕ) (steps : List Step) (feed : Feeding) (trial : Trial) (a b left : Option (List ℕ))
+pub make_ends : GeneratedRunsHold → (number ticks : ℕ) (before : Reporting) (bytes : List ℕ) (steps : List Step) (feed : Feeding) (trial : Trial) (a b left : Option (List ℕ))
     (answer : TrialStatus)
-    → ticks ≤ 2000 → bytes ≡ file 240 5 (generated number ticks) → steps ≡ generated_steps ticks → detail ≡ Sums → Opens (Some bytes) left (Ok feed)
+    → ticks ≤ 2000 → bytes ≡ file 240 5 (generated number ticks) → steps ≡ generated_steps ticks → before ≡ record { detail = Sums; text = [] }
+    → Opens (Some bytes) left (Ok feed)
     → ((file : CaptureFile) (left : Option (List ℕ)) → IsFeedOf feed file left → StandsFor trial file left start)
-    → ((file : CaptureFile) (state : State) → StandsFor trial file left state → EndsRun IsStep detail file 1 steps state a b answer)
+    → ((file : CaptureFile) (state : State) → StandsFor trial file left state → EndsRun IsStep before file 1 steps state a b answer)
     → AnswersMake number ticks a b answer
-make_ends number ticks detail bytes steps feed trial a b left answer few is are sums opens stands run =
+make_ends hold number ticks before bytes steps feed trial a b left answer few is are sums opens stands run =
     let file = generated_file number ticks in
-    ends number ticks a b answer
-    (subst (λ (d : Detail). EndsRun IsStep d file 1 (generated_steps ticks) start a b answer) sums
-    (subst (λ (l : List Step). EndsRun IsStep detail file 1 l start a b answer) are (run file start (stands file left
+    ends hold number ticks few a b answer
+    (subst (λ (r : Reporting). EndsRun IsStep r file 1 (generated_steps ticks) start a b answer) sums
+    (subst (λ (l : List Step). EndsRun IsStep before file 1 l start a b answer) are (run file start (stands file left
     (made_feed number ticks bytes feed left few is opens)))))
 
 -- all were run
-pub make_finishes : (number ticks : ℕ) (detail : Detail) (bytes : List ℕ) (steps : List Step) (feed : Feeding) (trial new : Trial)
+pub make_finishes : GeneratedRunsHold → (number ticks : ℕ) (before : Reporting) (bytes : List ℕ) (steps : List Step) (feed : Feeding) (trial new : Trial)
     (a b c left left' : Option (List ℕ))
-    (answer : TrialStatus) → ticks ≤ 2000 → bytes ≡ file 240 5 (generated number ticks) → steps ≡ generated_steps ticks → detail ≡ Sums → Opens
-    (Some bytes) left (Ok feed)
+    (answer : TrialStatus) → ticks ≤ 2000 → bytes ≡ file 240 5 (generated number ticks) → steps ≡ generated_steps ticks
+    → before ≡ record { detail = Sums; text = [] } → Opens (Some bytes) left (Ok feed)
     → ((file : CaptureFile) (left : Option (List ℕ)) → IsFeedOf feed file left → StandsFor trial file left start)
-    → ((file : CaptureFile) (state : State) → StandsFor trial file left state → (n : ℕ) × LedTo IsStep detail file 1 steps state a b n [] new left')
-    → ((file : CaptureFile) (state : State) → StandsFor new file left' state → WritesRun new.reporter.detail (finished file.fault state) b c answer)
+    → ((file : CaptureFile) (state : State) → StandsFor trial file left state → (n : ℕ) × LedTo IsStep before file 1 steps state a b n [] new left')
+    → ((file : CaptureFile) (state : State) → StandsFor new file left' state → WritesBehind new.reporter (finished file.fault state) b c answer)
     → AnswersMake number ticks a c answer
-make_finishes number ticks detail bytes steps feed trial new a b c left left' answer few is are sums opens stands run finish =
-    let file = generated_file number ticks in
-    let all = run file start (stands file left (made_feed number ticks bytes feed left few is opens)) in
-    let led : LedTo IsStep Sums file 1 (generated_steps ticks) start a b all.0 [] new left' =
-    subst (λ (d : Detail). LedTo IsStep d file 1 (generated_steps ticks) start a b all.0 [] new left') sums
-    (subst (λ (l : List Step). LedTo IsStep detail file 1 l start a b all.0 [] new left') are all.1) in
-    let w : WritesRun Sums (finished file.fault led.reached) b c answer =
-    subst (λ (d : Detail). WritesRun d (finished file.fault led.reached) b c answer) led.detail_is (finish file led.reached led.stands) in
-    ends number ticks a c answer
-    (ends_behind IsStep Sums file 1 all.0 (generated_steps ticks) [] start led.reached led.reports a b c answer led.run led.writes
-    (record { run = finished file.fault led.reached; runs = refl; writes = w }))
+make_finishes hold number ticks before bytes steps feed trial new a b c left left' answer few is are sums opens stands run finish =
+    make_ends hold number ticks before bytes steps feed trial a c left answer few is are sums opens stands
+    (λ file state there. by file state (run file state there) (finish file))
+  where
+    by : (file : CaptureFile) (state : State) → (n : ℕ) × LedTo IsStep before file 1 steps state a b n [] new left'
+        → ((state : State) → StandsFor new file left' state → WritesBehind new.reporter (finished file.fault state) b c answer)
+        → EndsRun IsStep before file 1 steps state a c answer
+    by file state led finish = finishes IsStep before file steps state a b c led.0 new left' answer led.1 finish

@@ -1,10 +1,10 @@
 -- A generated file is read as what was generated.
-use Rattle.std.proofs.Common.{◌≡◌, ◌+◌, ◌≤◌, ◌++◌, ◌∷◌, [], ℕ, List, Option, Some, None, Result, Ok, Err, length, arith, refl, sym, ap, ◌∙◌, append_assoc}
+use Rattle.std.proofs.Common.{◌≡◌, ◌≤◌, ◌++◌, ◌∷◌, [], ℕ, List, None, Ok, length, arith, refl, ap, ◌∙◌, append_assoc}
 use Rattle.std.specs.Prelude.{codes}
 use Rattle.std.specs.List.{flat_map}
 use Rattle.gs_tape.specs.Tick.{Tick}
 use Rattle.gs_tape.specs.Capture.{head, tick, file}
-use Rattle.gs_tape.specs.Reading.{Fault, Head, head_at, text_at, number_at, Read, read, ticks_of, first_fault, audio_length, audio_duration, audio_of_head, duration_of_head}
+use Rattle.gs_tape.specs.Reading.{head_at, text_at, number_at, read, audio_length, audio_duration, audio_of_head, duration_of_head}
 use Rattle.gs_tape.specs.Generated.{generated}
 use Rattle.gs_tape.proofs.GeneratedWithin.{generated_is_writable}
 use Rattle.gs_tape.proofs.WrittenFiles.{files_are_read}

@@ -1,10 +1,9 @@
 -- Line after line.
 use Rattle.std.proofs.Common.{◌≡◌, ◌+◌, ◌-◌, ◌<◌, ◌≤◌, ◌^◌, ◌++◌, ◌∙◌, ◌↔◌, ℕ, List, [], ◌∷◌, length, Option, Some, None, Result, Ok, Err}
-use Rattle.std.proofs.Common.{refl, sym, ap, subst}
+use Rattle.std.proofs.Common.{false, append-nil, refl, sym, ap, subst}
 use Rattle.std.specs.Prelude.{IfSome}
 use Rattle.std.specs.Io.KnownBytes.{Appends, IsAtEnd, prepend_known}
-use Rattle.std.proofs.KnownBytes.{Appends-nil, Appends-trans}
-use Rattle.gs_command.specs.declared.command.Detail.{Detail}
+use Rattle.gs_bytes.specs.Outside.{AppendsPart}
 use Rattle.gs_schedule.specs.Lines.{Answers, LinesState, LosesLine, lines_of, most_line, next_line, to_come}
 use Rattle.gs_schedule.specs.Step.{Spells}
 use Rattle.gs_schedule.specs.declared.line.Line.{Line}
@@ -13,18 +12,19 @@ use Rattle.gs_schedule.specs.declared.lines_error.LinesError.TheVariants as line
 use Rattle.gs_schedule.specs.declared.status.TrialStatus.{TrialStatus}
 use Rattle.gs_schedule.specs.declared.status.TrialStatus.TheVariants as status
 use Rattle.gs_schedule.specs.declared.step.Step.{Step}
+use Rattle.gs_report.specs.Reporting.{Reporting, with_reports}
 use Rattle.gs_run.specs.CaptureFile.{CaptureFile}
 use Rattle.gs_run.specs.Session.{State}
-use Rattle.gs_run.specs.Report.{text_of}
 use Rattle.gs_run.specs.Done.{ran}
 use Rattle.gs_run.specs.Line.{HasStep}
+use Rattle.gs_run.specs.Run.{stopped}
 use Rattle.gs_trial.specs.declared.trial.Trial.{Trial}
 use Rattle.gs_trial.specs.Standing.{StandsFor}
-use Rattle.gs_trial.specs.Stepping.{lines_status}
-use Rattle.gs_trial.specs.Running.{EndsRun, EndsStep, Leads, LedTo, RanStep}
-use Rattle.gs_trial.proofs.Leading.{ends_bad, ends_behind, ends_quietly, ends_step, leads_more, leads_none, leads_step, next_bad, next_none}
-use Rattle.gs_trial.proofs.SomeRun.{lines_some}
-use Rattle.gs_trial.proofs.Texts.{text-append}
+use Rattle.gs_trial.specs.Running.{EndsRun, EndsStep, IsSameButText, Leads, LedTo, RanStep, WritesBehind, WritesUpTo}
+use Rattle.gs_trial.specs.Trial.{WritesFront, is_of_run}
+use Rattle.gs_trial.proofs.Leading.{ends_bad, ends_behind, ends_front, ends_step, front_of, leads_more, leads_step, led_none, next_bad, next_none, same_stands}
+use Rattle.gs_run.proofs.SomeRun.{lines_some}
+use Rattle.gs_trial.proofs.Texts.{front_part, up_to_on, up_to_reports}
 
 -- ---- one line
 
@@ -39,11 +39,11 @@ pub has_none : (number : ℕ) (line read : List ℕ) (found : Option Step) → r
 has_none number line read found same is reads = λ step of.
     absurd (cc (is, (reads step).1 (subst (λ (l : List ℕ). Spells l step) (sym same) of.spells)))
 
-pub led_line : (detail : Detail) (file : CaptureFile) (number : ℕ) (line : List ℕ) (rest : List (List ℕ)) (state : State) (step : Step)
+pub led_line : (before : Reporting) (file : CaptureFile) (number : ℕ) (line : List ℕ) (rest : List (List ℕ)) (state : State) (step : Step)
     (a b left : Option (List ℕ)) (new : Trial)
-    → HasStep number line (Some step) → RanStep detail file step state a b new left
-    → LedTo HasStep detail file number (line ∷ rest) state a b (number + 1) rest new left
-led_line detail file number line rest state step a b left new has did = record {
+    → HasStep number line (Some step) → RanStep before file step state a b new left
+    → LedTo HasStep before file number (line ∷ rest) state a b (number + 1) rest new left
+led_line before file number line rest state step a b left new has did = record {
   reached = (ran file did.deeds state).state;
   reports = (ran file did.deeds state).reports;
   run = leads_step HasStep file number line rest state step did.deeds has did.are_deeds did.all;
@@ -52,36 +52,59 @@ led_line detail file number line rest state step a b left new has did = record {
   writes = did.writes;
 }
 
-pub ends_line : (detail : Detail) (file : CaptureFile) (number : ℕ) (line : List ℕ) (rest : List (List ℕ)) (state : State) (step : Step) (a b : Option (List ℕ))
-    (answer : TrialStatus)
-    → HasStep number line (Some step) → EndsStep detail file number step state a b answer → EndsRun HasStep detail file number (line ∷ rest) state a b answer
-ends_line detail file number line rest state step a b answer has ends =
-    ends_step HasStep detail file number line rest state step a b answer (λ t. lines_some file (number + 1) rest t) has ends
+pub ends_line : (before : Reporting) (file : CaptureFile) (number : ℕ) (line : List ℕ) (rest : List (List ℕ)) (state : State) (step : Step)
+    (a b : Option (List ℕ)) (answer : TrialStatus)
+    → HasStep number line (Some step) → EndsStep before file number step state a b answer
+    → EndsRun HasStep before file number (line ∷ rest) state a b answer
+ends_line before file number line rest state step a b answer has ends =
+    ends_step HasStep before file number line rest state step a b answer (λ t. lines_some file (number + 1) rest t) has ends
+
+-- what waits is written, and then the line is at fault
+pub bad_line : (before : Reporting) (number : ℕ) (state : State) (a b : Option (List ℕ)) → Appends a b before.text
+    → WritesBehind before (stopped (status.BadSchedule number) state) a b (status.BadSchedule number)
+bad_line before number state a b wrote = (refl, subst (Appends a b) (sym (append-nil before.text)) wrote)
+
+pub unwritten_line : (before : Reporting) (number : ℕ) (state : State) (a b : Option (List ℕ)) (answer : TrialStatus) → is_of_run answer ≡ false
+    → AppendsPart a b before.text → WritesBehind before (stopped (status.BadSchedule number) state) a b answer
+unwritten_line before number state a b answer not part =
+    front_of before (stopped (status.BadSchedule number) state) a b answer not (front_part a b before.text part)
 
 -- ---- one after the other
 
 -- Lines were run, up to those that the reader and its source still give.
-pub record LedOn (detail : Detail) (file : CaptureFile) (bytes : List ℕ) (state : State) (a b : Option (List ℕ)) (lines : LinesState) (source : Option (List ℕ))
-    (trial : Trial) (left : Option (List ℕ)) : Type 0 where
+pub record LedOn (before : Reporting) (file : CaptureFile) (bytes : List ℕ) (state : State) (a b : Option (List ℕ)) (lines : LinesState)
+    (source : Option (List ℕ)) (trial : Trial) (left : Option (List ℕ)) : Type 0 where
   pub rest : List ℕ
   pub rest_is : to_come lines source ≡ Some rest
-  pub led : LedTo HasStep detail file 1 (lines_of bytes) state a b (lines.given + 1) (lines_of rest) trial left
+  pub led : LedTo HasStep before file 1 (lines_of bytes) state a b (lines.given + 1) (lines_of rest) trial left
 
-pub led_start : (detail : Detail) (file : CaptureFile) (bytes : List ℕ) (state : State) (a source : Option (List ℕ)) (trial : Trial) (left : Option (List ℕ))
-    → StandsFor trial file left state → trial.reporter.detail ≡ detail → source ≡ Some bytes
-    → LedOn detail file bytes state a a (record { given = 0; held = [] }) source trial left
-led_start detail file bytes state a source trial left stands same is = record {
+pub led_start : (file : CaptureFile) (bytes : List ℕ) (state : State) (a source : Option (List ℕ)) (trial : Trial) (left : Option (List ℕ))
+    → StandsFor trial file left state → source ≡ Some bytes
+    → LedOn trial.reporter file bytes state a a (record { given = 0; held = [] }) source trial left
+led_start file bytes state a source trial left stands is = record {
   rest = bytes;
   rest_is = ap (prepend_known []) is;
-  led = record {
-    reached = state;
-    reports = [];
-    run = leads_none HasStep file 1 (lines_of bytes) state;
-    stands = stands;
-    detail_is = same;
-    writes = Appends-nil a;
-  };
+  led = led_none HasStep file 1 (lines_of bytes) state a trial left stands;
 }
+
+-- some of what waited was written
+pub led_written : (before : Reporting) (file : CaptureFile) (bytes : List ℕ) (state : State) (a b c : Option (List ℕ)) (lines : LinesState)
+    (source : Option (List ℕ)) (trial new : Trial) (left : Option (List ℕ)) → IsSameButText trial new → WritesUpTo b c trial.reporter.text new.reporter.text
+    → LedOn before file bytes state a b lines source trial left → LedOn before file bytes state a c lines source new left
+led_written before file bytes state a b c lines source trial new left same wrote on =
+    let led = on.led in
+    record {
+      rest = on.rest;
+      rest_is = on.rest_is;
+      led = record {
+        reached = led.reached;
+        reports = led.reports;
+        run = led.run;
+        stands = same_stands trial new file left led.reached same led.stands;
+        detail_is = same.detail ∙ led.detail_is;
+        writes = up_to_on a b c (with_reports before led.reports).text trial.reporter.text new.reporter.text led.writes wrote;
+      };
+    }
 
 -- the next line was given
 losing : (before after : Option (List ℕ)) (rest line : List ℕ) → before ≡ Some rest → LosesLine before after line
@@ -92,14 +115,14 @@ losing before after rest line is loses = by after (subst (λ (o : Option (List �
     by None loses = absurd loses
     by (Some now) loses = (now, refl, loses)
 
-pub led_more : (detail : Detail) (file : CaptureFile) (bytes : List ℕ) (state : State) (a b d : Option (List ℕ)) (lines lines' : LinesState)
+pub led_more : (before : Reporting) (file : CaptureFile) (bytes : List ℕ) (state : State) (a b d : Option (List ℕ)) (lines lines' : LinesState)
     (source source' : Option (List ℕ))
-    (trial new : Trial) (left left' : Option (List ℕ)) (line : Line) → LedOn detail file bytes state a b lines source trial left
+    (trial new : Trial) (left left' : Option (List ℕ)) (line : Line) → LedOn before file bytes state a b lines source trial left
     → LosesLine (to_come lines source) (to_come lines' source') line.bytes → line.number ≡ lines.given + 1 → lines'.given ≡ line.number
     → ((t : State) (rest : List (List ℕ)) → StandsFor trial file left t
-    → LedTo HasStep trial.reporter.detail file line.number (line.bytes ∷ rest) t b d (line.number + 1) rest new left')
-    → LedOn detail file bytes state a d lines' source' new left'
-led_more detail file bytes state a b d lines lines' source source' trial new left left' line on loses number given run =
+    → LedTo HasStep trial.reporter file line.number (line.bytes ∷ rest) t b d (line.number + 1) rest new left')
+    → LedOn before file bytes state a d lines' source' new left'
+led_more before file bytes state a b d lines lines' source source' trial new left left' line on loses number given run =
     let l = losing (to_come lines source) (to_come lines' source') on.rest line.bytes on.rest_is loses in
     let first = on.led in
     let one = run first.reached (lines_of l.0) first.stands in
@@ -108,7 +131,6 @@ led_more detail file bytes state a b d lines lines' source source' trial new lef
     (subst (λ (n : ℕ). Leads HasStep file line.number (lines_of on.rest) first.reached one.reports (n + 1) (lines_of l.0) one.reached) (sym given)
     (subst (λ (ls : List (List ℕ)). Leads HasStep file line.number ls first.reached one.reports (line.number + 1) (lines_of l.0) one.reached)
     (sym l.2) one.run)) in
-    let wrote : Appends b d (text_of detail one.reports) = subst (λ (k : Detail). Appends b d (text_of k one.reports)) first.detail_is one.writes in
     record {
       rest = l.0;
       rest_is = l.1;
@@ -120,62 +142,74 @@ led_more detail file bytes state a b d lines lines' source source' trial new lef
             first.run start;
         stands = one.stands;
         detail_is = one.detail_is ∙ first.detail_is;
-        writes = subst (Appends a d) (sym (text-append detail first.reports one.reports))
-            (Appends-trans a b d (text_of detail first.reports) (text_of detail one.reports) first.writes wrote);
+        writes = up_to_reports before trial.reporter first.reports one.reports a b d new.reporter.text first.detail_is first.writes one.writes;
       };
     }
 
+-- the run ends behind the lines that were run
+ends_on : (before : Reporting) (file : CaptureFile) (bytes : List ℕ) (state : State) (a b d : Option (List ℕ)) (lines : LinesState) (source : Option (List ℕ))
+    (trial : Trial) (left : Option (List ℕ)) (answer : TrialStatus) → (on : LedOn before file bytes state a b lines source trial left)
+    → EndsRun HasStep trial.reporter file (lines.given + 1) (lines_of on.rest) on.led.reached b d answer
+    → EndsRun HasStep before file 1 (lines_of bytes) state a d answer
+ends_on before file bytes state a b d lines source trial left answer on there =
+    ends_behind HasStep before trial.reporter file 1 (lines.given + 1) (lines_of bytes) (lines_of on.rest) state on.led.reached on.led.reports a b d answer
+    on.led.run on.led.detail_is on.led.writes there
+
 -- the next line ends the run
-pub ends_more : (detail : Detail) (file : CaptureFile) (bytes : List ℕ) (state : State) (a b d : Option (List ℕ)) (lines lines' : LinesState)
+pub ends_more : (before : Reporting) (file : CaptureFile) (bytes : List ℕ) (state : State) (a b d : Option (List ℕ)) (lines lines' : LinesState)
     (source source' : Option (List ℕ))
-    (trial : Trial) (left : Option (List ℕ)) (line : Line) (answer : TrialStatus) → LedOn detail file bytes state a b lines source trial left
+    (trial : Trial) (left : Option (List ℕ)) (line : Line) (answer : TrialStatus) → LedOn before file bytes state a b lines source trial left
     → LosesLine (to_come lines source) (to_come lines' source') line.bytes → line.number ≡ lines.given + 1
     → ((t : State) (rest : List (List ℕ)) → StandsFor trial file left t
-    → EndsRun HasStep trial.reporter.detail file line.number (line.bytes ∷ rest) t b d answer)
-    → EndsRun HasStep detail file 1 (lines_of bytes) state a d answer
-ends_more detail file bytes state a b d lines lines' source source' trial left line answer on loses number run =
+    → EndsRun HasStep trial.reporter file line.number (line.bytes ∷ rest) t b d answer)
+    → EndsRun HasStep before file 1 (lines_of bytes) state a d answer
+ends_more before file bytes state a b d lines lines' source source' trial left line answer on loses number run =
     let l = losing (to_come lines source) (to_come lines' source') on.rest line.bytes on.rest_is loses in
     let first = on.led in
-    let one = run first.reached (lines_of l.0) first.stands in
-    let there : EndsRun HasStep detail file (lines.given + 1) (lines_of on.rest) first.reached b d answer =
-    subst (λ (n : ℕ). EndsRun HasStep detail file n (lines_of on.rest) first.reached b d answer) number
-    (subst (λ (k : Detail). EndsRun HasStep k file line.number (lines_of on.rest) first.reached b d answer) first.detail_is
-    (subst (λ (ls : List (List ℕ)). EndsRun HasStep trial.reporter.detail file line.number ls first.reached b d answer) (sym l.2) one)) in
-    ends_behind HasStep detail file 1 (lines.given + 1) (lines_of bytes) (lines_of on.rest) state first.reached first.reports a b d answer first.run
-    first.writes there
+    ends_on before file bytes state a b d lines source trial left answer on
+    (subst (λ (n : ℕ). EndsRun HasStep trial.reporter file n (lines_of on.rest) first.reached b d answer) number
+    (subst (λ (ls : List (List ℕ)). EndsRun HasStep trial.reporter file line.number ls first.reached b d answer) (sym l.2)
+    (run first.reached (lines_of l.0) first.stands)))
 
 -- none is left
-pub led_all : (detail : Detail) (file : CaptureFile) (bytes : List ℕ) (state : State) (a b : Option (List ℕ)) (lines : LinesState) (source : Option (List ℕ))
-    (trial : Trial) (left : Option (List ℕ)) (found : Result (Option Line) LinesError) → LedOn detail file bytes state a b lines source trial left
+pub led_all : (before : Reporting) (file : CaptureFile) (bytes : List ℕ) (state : State) (a b : Option (List ℕ)) (lines : LinesState)
+    (source : Option (List ℕ)) (trial : Trial) (left : Option (List ℕ)) (found : Result (Option Line) LinesError)
+    → LedOn before file bytes state a b lines source trial left
     → IfSome (to_come lines source) (λ rest. Answers found (next_line lines.given (lines_of rest))) → found ≡ Ok None
-    → (n : ℕ) × LedTo HasStep detail file 1 (lines_of bytes) state a b n [] trial left
-led_all detail file bytes state a b lines source trial left found on given is =
+    → (n : ℕ) × LedTo HasStep before file 1 (lines_of bytes) state a b n [] trial left
+led_all before file bytes state a b lines source trial left found on given is =
     let at : Answers found (next_line lines.given (lines_of on.rest)) =
     subst (λ (o : Option (List ℕ)). IfSome o (λ rest. Answers found (next_line lines.given (lines_of rest)))) on.rest_is given in
     let none : lines_of on.rest ≡ [] = next_none lines.given (lines_of on.rest)
     (subst (λ (f : Result (Option Line) LinesError). Answers f (next_line lines.given (lines_of on.rest))) is at) in
-    (lines.given + 1, subst (λ (ls : List (List ℕ)). LedTo HasStep detail file 1 (lines_of bytes) state a b (lines.given + 1) ls trial left) none on.led)
+    (lines.given + 1, subst (λ (ls : List (List ℕ)). LedTo HasStep before file 1 (lines_of bytes) state a b (lines.given + 1) ls trial left) none on.led)
 
--- none is given
-pub ends_lines : (detail : Detail) (file : CaptureFile) (bytes : List ℕ) (state : State) (a b : Option (List ℕ)) (lines : LinesState) (source : Option (List ℕ))
-    (trial : Trial) (left : Option (List ℕ)) (e : LinesError) → LedOn detail file bytes state a b lines source trial left
-    → IfSome (to_come lines source) (λ rest. Answers (Err e) (next_line lines.given (lines_of rest)))
-    → EndsRun HasStep detail file 1 (lines_of bytes) state a b (lines_status e)
-ends_lines detail file bytes state a b lines source trial left e on given =
-    let first = on.led in
-    ends_behind HasStep detail file 1 (lines.given + 1) (lines_of bytes) (lines_of on.rest) state first.reached first.reports a b b
-    (lines_status e) first.run first.writes
-    (by e (subst (λ (o : Option (List ℕ)). IfSome o (λ rest. Answers (Err e) (next_line lines.given (lines_of rest)))) on.rest_is given) first.reached)
-  where
-    by : (e : LinesError) → Answers (Err e) (next_line lines.given (lines_of on.rest)) → (t : State)
-        → EndsRun HasStep detail file (lines.given + 1) (lines_of on.rest) t b b (lines_status e)
-    by lines_error.ReadFault given t = ends_quietly detail file (lines.given + 1) (lines_of on.rest) t b _ refl
-    by lines_error.OutOfMemory given t = ends_quietly detail file (lines.given + 1) (lines_of on.rest) t b _ refl
-    by (lines_error.TooLong k) given t =
-        let (line, rest, ls, number, none) = next_bad lines.given (lines_of on.rest) k given in
-        subst (λ (l : List (List ℕ)). EndsRun HasStep detail file (lines.given + 1) l t b b (status.BadSchedule k)) (sym ls)
-        (subst (λ (n : ℕ). EndsRun HasStep detail file (lines.given + 1) (line ∷ rest) t b b (status.BadSchedule n)) (sym number)
-        (ends_bad detail file (lines.given + 1) line rest t b none))
+-- at most what waited was written
+pub ends_quietly : (before : Reporting) (file : CaptureFile) (bytes : List ℕ) (state : State) (a b d : Option (List ℕ)) (lines : LinesState)
+    (source : Option (List ℕ)) (trial : Trial) (left : Option (List ℕ)) (answer : TrialStatus) → is_of_run answer ≡ false
+    → WritesFront b d trial.reporter.text → LedOn before file bytes state a b lines source trial left
+    → EndsRun HasStep before file 1 (lines_of bytes) state a d answer
+ends_quietly before file bytes state a b d lines source trial left answer not wrote on =
+    ends_on before file bytes state a b d lines source trial left answer on
+    (ends_front trial.reporter file (lines.given + 1) (lines_of on.rest) on.led.reached b d answer not wrote)
+
+-- the next line is too long
+pub ends_long : (before : Reporting) (file : CaptureFile) (bytes : List ℕ) (state : State) (a b d : Option (List ℕ)) (lines : LinesState)
+    (source : Option (List ℕ)) (trial : Trial) (left : Option (List ℕ)) (k : ℕ) (found : Result (Option Line) LinesError) (answer : TrialStatus)
+    → LedOn before file bytes state a b lines source trial left
+    → IfSome (to_come lines source) (λ rest. Answers found (next_line lines.given (lines_of rest))) → found ≡ Err (lines_error.TooLong k)
+    → ((t : State) → WritesBehind trial.reporter (stopped (status.BadSchedule k) t) b d answer)
+    → EndsRun HasStep before file 1 (lines_of bytes) state a d answer
+ends_long before file bytes state a b d lines source trial left k found answer on given is wrote =
+    let at : next_line lines.given (lines_of on.rest) ≡ Err k =
+    subst (λ (f : Result (Option Line) LinesError). Answers f (next_line lines.given (lines_of on.rest))) is
+    (subst (λ (o : Option (List ℕ)). IfSome o (λ rest. Answers found (next_line lines.given (lines_of rest)))) on.rest_is given) in
+    let (line, rest, ls, number, none) = next_bad lines.given (lines_of on.rest) k at in
+    let t = on.led.reached in
+    ends_on before file bytes state a b d lines source trial left answer on
+    (subst (λ (l : List (List ℕ)). EndsRun HasStep trial.reporter file (lines.given + 1) l t b d answer) (sym ls)
+    (ends_bad trial.reporter file (lines.given + 1) line rest t b d answer none
+    (subst (λ (n : ℕ). WritesBehind trial.reporter (stopped (status.BadSchedule n) t) b d answer) number (wrote t))))
 
 -- where nothing is to come nothing is left
 pub none_left : (held : List ℕ) (left : Option (List ℕ)) → IsAtEnd (prepend_known held left) → IsAtEnd left

@@ -1,9 +1,9 @@
 -- A schedule over a capture file, from its head to the sums.
-use Rattle.std.proofs.Common.{◌≡◌, ◌∙◌, ◌++◌, ◌⊎◌, ℕ, Bool, true, false, List, [], ◌∷◌, length, take, Option, Some, None, Result, Ok, Err, refl, sym, ap}
-use Rattle.std.proofs.Common.{subst}
-use Rattle.std.specs.Prelude.{IfErr, MatchBool, OnErr, OnOk, ⊤}
+use Rattle.std.proofs.Common.{◌≡◌, ◌∙◌, ◌++◌, ◌⊎◌, ℕ, true, false, List, [], ◌∷◌, length, Option, Some, None, Result, Ok, Err, refl, sym, ap}
+use Rattle.std.proofs.Common.{append-nil, subst}
+use Rattle.std.specs.Prelude.{IfErr, OnErr, OnOk, ⊤}
 use Rattle.std.specs.Io.KnownBytes.{Appends}
-use Rattle.std.proofs.KnownBytes.{Appends-nil}
+use Rattle.std.proofs.KnownBytes.{Appends-nil, Appends-trans}
 use Rattle.gs_bytes.specs.Outside.{AppendsPart}
 use Rattle.gs_tape.specs.Reading.{Fault, head_at}
 use Rattle.gs_tape.specs.declared.error.TapeError.{TapeError}
@@ -14,74 +14,76 @@ use Rattle.gs_schedule.specs.Lines.{lines_of}
 use Rattle.gs_schedule.specs.declared.output.Output.TheVariants as output
 use Rattle.gs_schedule.specs.declared.status.TrialStatus.{TrialStatus}
 use Rattle.gs_schedule.specs.declared.status.TrialStatus.TheVariants as status
+use Rattle.gs_schedule.specs.declared.step.Step.{Step}
 use Rattle.gs_report.specs.Reporting.{Reporting, with_reports}
 use Rattle.gs_run.specs.CaptureFile.{CaptureFile, fault_of_head, file_of}
 use Rattle.gs_run.specs.Session.{State, start}
-use Rattle.gs_run.specs.Report.{plain, text_of}
+use Rattle.gs_run.specs.Report.{Report, plain, text_of}
 use Rattle.gs_run.specs.Totals.{totals_from}
 use Rattle.gs_run.specs.Line.{HasStep}
+use Rattle.gs_run.specs.WholeRun.{RunsOverBytesHold}
 use Rattle.gs_run.specs.Run.{IsRun, Run, RunsFrom, RunsUnless, fault_status, finished, stopped}
 use Rattle.gs_trial.specs.declared.trial.Trial.{Trial}
 use Rattle.gs_trial.specs.Standing.{IsFeedOf, StandsFor}
 use Rattle.gs_trial.specs.Stepping.{tape_status}
-use Rattle.gs_trial.specs.Running.{EndsRun, LedTo}
+use Rattle.gs_trial.specs.Running.{EndsRun, LedTo, WritesBehind}
 use Rattle.gs_trial.specs.Trial.{AnswersIfTold, AnswersScript, WritesFront, WritesRun, answer_of, is_of_run}
-use Rattle.gs_trial.proofs.Leading.{ends_behind}
+use Rattle.gs_trial.proofs.Leading.{by_answer, ends_behind, front_of}
 use Rattle.gs_trial.proofs.Results.{not_of_run}
-use Rattle.gs_trial.proofs.SomeRun.{lines_some}
-use Rattle.gs_trial.proofs.Texts.{front_none, text_alone}
+use Rattle.gs_run.proofs.SomeRun.{lines_some}
+use Rattle.gs_trial.proofs.Texts.{front_all, front_behind, front_none, front_part}
 
 -- ---- the end
 
-by_answer : (detail : Detail) (run : Run) (a b : Option (List ℕ)) (answer : TrialStatus) (x : Bool) → is_of_run answer ≡ x
-    → MatchBool x ((run.status ≡ answer) × Appends a b (text_of detail run.reports)) (WritesFront a b (text_of detail run.reports))
-    → WritesRun detail run a b answer
-by_answer detail run a b answer x is w =
-    subst (λ (y : Bool). MatchBool y ((run.status ≡ answer) × Appends a b (text_of detail run.reports)) (WritesFront a b (text_of detail run.reports)))
-    (sym is) w
+-- nothing waits yet
+abbrev pub new_reporter : Detail → Reporting
+new_reporter detail = record { detail = detail; text = [] }
 
 -- nothing was written of a run that wasn't ended by this answer
 pub quiet : (detail : Detail) (run : Run) (a : Option (List ℕ)) (answer : TrialStatus) → is_of_run answer ≡ false → WritesRun detail run a a answer
-quiet detail run a answer not = by_answer detail run a a answer false not (front_none a (text_of detail run.reports))
+quiet detail run a answer not = front_of (new_reporter detail) run a a answer not (front_none a [])
 
-ended : (detail : Detail) (fault : Option Fault) (state : State) (a : Option (List ℕ)) (why : Fault) (answer : TrialStatus) → fault ≡ Some why
-    → fault_status why ≡ answer
-    → is_of_run answer ≡ true → WritesRun detail (finished fault state) a a answer
-ended detail fault state a why answer is names of =
-    subst (λ (f : Option Fault). WritesRun detail (finished f state) a a answer) (sym is)
-    (by_answer detail (stopped (fault_status why) state) a a answer true of (names, Appends-nil a))
+-- what waited was written, and the file has this fault
+ended : (before : Reporting) (fault : Option Fault) (state : State) (a b : Option (List ℕ)) (why : Fault) (answer : TrialStatus) → fault ≡ Some why
+    → fault_status why ≡ answer → is_of_run answer ≡ true → Appends a b before.text → WritesBehind before (finished fault state) a b answer
+ended before fault state a b why answer is names of wrote =
+    subst (λ (f : Option Fault). WritesBehind before (finished f state) a b answer) (sym is)
+    (by_answer before (stopped (fault_status why) state) a b answer true of (names, subst (Appends a b) (sym (append-nil before.text)) wrote))
 
 -- the rest of the file has this error
-pub finish_fails : (detail : Detail) (fault : Option Fault) (state : State) (a : Option (List ℕ)) (e : TapeError) → EndsWith {A = ⊤} fault (Err e)
-    → WritesRun detail (finished fault state) a a (tape_status e)
-finish_fails detail fault state a tape_error.TapeFault ends = quiet detail (finished fault state) a status.TapeFault refl
-finish_fails detail fault state a tape_error.OutOfMemory ends = quiet detail (finished fault state) a status.OutOfMemory refl
-finish_fails detail fault state a (tape_error.BadTape kind place) ends = ended detail fault state a _ _ ends refl refl
-finish_fails detail fault state a (tape_error.TapeFull tick) ends = ended detail fault state a _ _ ends refl refl
-finish_fails detail fault state a (tape_error.UnitTooLarge tick) ends = ended detail fault state a _ _ ends refl refl
-finish_fails detail fault state a (tape_error.AudioLength length) ends = ended detail fault state a _ _ ends refl refl
+pub finish_fails : (before : Reporting) (fault : Option Fault) (state : State) (a b : Option (List ℕ)) (e : TapeError) → EndsWith {A = ⊤} fault (Err e)
+    → Appends a b before.text → WritesBehind before (finished fault state) a b (tape_status e)
+finish_fails before fault state a b tape_error.TapeFault ends wrote =
+    front_of before (finished fault state) a b status.TapeFault refl (front_all a b before.text wrote)
+finish_fails before fault state a b tape_error.OutOfMemory ends wrote =
+    front_of before (finished fault state) a b status.OutOfMemory refl (front_all a b before.text wrote)
+finish_fails before fault state a b (tape_error.BadTape kind place) ends wrote = ended before fault state a b _ _ ends refl refl wrote
+finish_fails before fault state a b (tape_error.TapeFull tick) ends wrote = ended before fault state a b _ _ ends refl refl wrote
+finish_fails before fault state a b (tape_error.UnitTooLarge tick) ends wrote = ended before fault state a b _ _ ends refl refl wrote
+finish_fails before fault state a b (tape_error.AudioLength length) ends wrote = ended before fault state a b _ _ ends refl refl wrote
 
--- the sums
-pub sums_text : (detail : Detail) (fault : Option Fault) (state : State) (a b : Option (List ℕ)) (before now : Reporting) → before.detail ≡ detail
-    → before.text ≡ []
-    → fault ≡ None → now ≡ with_reports before (totals_from 1 state.sessions ++ plain output.Done ∷ []) → Appends a b now.text
-    → WritesRun detail (finished fault state) a b status.Ok
-sums_text detail fault state a b before now same none whole is wrote =
-    let text : now.text ≡ text_of detail (totals_from 1 state.sessions ++ plain output.Done ∷ []) =
-    ap (λ (r : Reporting). r.text) is ∙ text_alone before _ none
-    ∙ ap (λ (d : Detail). text_of d (totals_from 1 state.sessions ++ plain output.Done ∷ [])) same in
-    subst (λ (f : Option Fault). WritesRun detail (finished f state) a b status.Ok) (sym whole) (refl, subst (Appends a b) text wrote)
+-- what waited was written, and then the sums, or a part of them
+pub finish_writes : (before here now : Reporting) (fault : Option Fault) (state : State) (a b c : Option (List ℕ)) (r : Result ⊤ TrialStatus)
+    → Appends a b before.text → here.detail ≡ before.detail → here.text ≡ [] → fault ≡ None
+    → now ≡ with_reports here (totals_from 1 state.sessions ++ plain output.Done ∷ []) → OnOk r (Appends b c now.text)
+    → OnErr r (AppendsPart b c now.text) → IfErr r (λ e. (e ≡ status.WriteFault) ⊎ (e ≡ status.OutOfMemory))
+    → WritesBehind before (finished fault state) a c (answer_of r)
+finish_writes before here now fault state a b c r first same none whole is wrote part cause =
+    subst (λ (f : Option Fault). WritesBehind before (finished f state) a c (answer_of r)) (sym whole) (by r wrote part cause)
+  where
+    sums : List Report
+    sums = totals_from 1 state.sessions ++ plain output.Done ∷ []
 
-pub sums_part : (detail : Detail) (fault : Option Fault) (state : State) (a b : Option (List ℕ)) (before now : Reporting) (answer : TrialStatus)
-    → before.detail ≡ detail → before.text ≡ []
-    → fault ≡ None → now ≡ with_reports before (totals_from 1 state.sessions ++ plain output.Done ∷ []) → is_of_run answer ≡ false → AppendsPart a b now.text
-    → WritesRun detail (finished fault state) a b answer
-sums_part detail fault state a b before now answer same none whole is not (n, less, wrote) =
-    let text : now.text ≡ text_of detail (totals_from 1 state.sessions ++ plain output.Done ∷ []) =
-    ap (λ (r : Reporting). r.text) is ∙ text_alone before _ none
-    ∙ ap (λ (d : Detail). text_of d (totals_from 1 state.sessions ++ plain output.Done ∷ [])) same in
-    subst (λ (f : Option Fault). WritesRun detail (finished f state) a b answer) (sym whole)
-    (by_answer detail (finished None state) a b answer false not (n, subst (λ (l : List ℕ). Appends a b (take n l)) text wrote))
+    text : now.text ≡ text_of before.detail sums
+    text = ap (λ (s : Reporting). s.text) is ∙ ap (λ (l : List ℕ). l ++ text_of here.detail sums) none ∙ ap (λ (d : Detail). text_of d sums) same
+
+    by : (r : Result ⊤ TrialStatus) → OnOk r (Appends b c now.text) → OnErr r (AppendsPart b c now.text)
+        → IfErr r (λ e. (e ≡ status.WriteFault) ⊎ (e ≡ status.OutOfMemory)) → WritesBehind before (finished None state) a c (answer_of r)
+    by (Ok done) wrote part cause =
+        (refl, Appends-trans a b c before.text (text_of before.detail sums) first (subst (Appends b c) text wrote))
+    by (Err e) wrote part cause =
+        by_answer before (finished None state) a c e false (not_of_run e cause)
+        (front_behind a b c before.text (text_of before.detail sums) first (subst (WritesFront b c) text (front_part b c now.text part)))
 
 -- ---- the head
 
@@ -108,102 +110,89 @@ some_run file lines = by file.head refl
           (sym is) refl,
     )
 
-unopened : (detail : Detail) (bytes lines : List ℕ) (a : Option (List ℕ)) (answer : TrialStatus) → is_of_run answer ≡ false
-    → AnswersScript detail bytes lines a a answer
-unopened detail bytes lines a answer not =
-    let r = some_run (file_of bytes) (lines_of lines) in
-    record { run = r.0; is_run = r.1; writes = quiet detail r.0 a answer not }
+-- what holds of every run over bytes holds of this one
+answers : RunsOverBytesHold → (detail : Detail) (bytes lines : List ℕ) (a b : Option (List ℕ)) (answer : TrialStatus) (run : Run)
+    → IsRun (file_of bytes) (lines_of lines) run → WritesRun detail run a b answer → AnswersScript detail bytes lines a b answer
+answers hold detail bytes lines a b answer run is wrote =
+    record { run = run; is_run = is; writes = wrote; holds = λ all. hold bytes (lines_of lines) run all is }
 
-headless : (detail : Detail) (bytes lines : List ℕ) (a : Option (List ℕ)) (why : Fault) (answer : TrialStatus) → head_at (length bytes) bytes ≡ Err why
-    → fault_status why ≡ answer
-    → is_of_run answer ≡ true → AnswersScript detail bytes lines a a answer
-headless detail bytes lines a why answer is names of =
+unopened : RunsOverBytesHold → (detail : Detail) (bytes lines : List ℕ) (a : Option (List ℕ)) (answer : TrialStatus) → is_of_run answer ≡ false
+    → AnswersScript detail bytes lines a a answer
+unopened hold detail bytes lines a answer not =
+    let r = some_run (file_of bytes) (lines_of lines) in
+    answers hold detail bytes lines a a answer r.0 r.1 (quiet detail r.0 a answer not)
+
+headless : RunsOverBytesHold → (detail : Detail) (bytes lines : List ℕ) (a : Option (List ℕ)) (why : Fault) (answer : TrialStatus)
+    → head_at (length bytes) bytes ≡ Err why → fault_status why ≡ answer → is_of_run answer ≡ true → AnswersScript detail bytes lines a a answer
+headless hold detail bytes lines a why answer is names of =
     let file = file_of bytes in
     let head : file.head ≡ Some why = ap fault_of_head is in
     let run = stopped (fault_status why) start in
-    record {
-      run = run;
-      is_run = subst (λ (o : Option Fault). RunsUnless o (RunsFrom HasStep file 1 (lines_of lines) start run) run) (sym head) refl;
-      writes = by_answer detail run a a answer true of (names, Appends-nil a);
-    }
+    answers hold detail bytes lines a a answer run
+    (subst (λ (o : Option Fault). RunsUnless o (RunsFrom HasStep file 1 (lines_of lines) start run) run) (sym head) refl)
+    (by_answer (new_reporter detail) run a a answer true of (names, Appends-nil a))
 
 -- a file that isn't opened
-pub open_fails : (detail : Detail) (bytes : List ℕ) (lines : List ℕ) (a left : Option (List ℕ)) (e : TapeError) → Opens (Some bytes) left (Err e)
+pub open_fails : RunsOverBytesHold → (detail : Detail) (bytes : List ℕ) (lines : List ℕ) (a left : Option (List ℕ)) (e : TapeError) → Opens (Some bytes) left (Err e)
     → AnswersScript detail bytes lines a a (tape_status e)
-open_fails detail bytes lines a left tape_error.TapeFault opens = unopened detail bytes lines a status.TapeFault refl
-open_fails detail bytes lines a left tape_error.OutOfMemory opens = unopened detail bytes lines a status.OutOfMemory refl
-open_fails detail bytes lines a left (tape_error.BadTape kind place) opens = headless detail bytes lines a _ _ opens refl refl
-open_fails detail bytes lines a left (tape_error.TapeFull tick) opens = headless detail bytes lines a _ _ opens refl refl
-open_fails detail bytes lines a left (tape_error.UnitTooLarge tick) opens = headless detail bytes lines a _ _ opens refl refl
-open_fails detail bytes lines a left (tape_error.AudioLength length) opens = headless detail bytes lines a _ _ opens refl refl
+open_fails hold detail bytes lines a left tape_error.TapeFault opens = unopened hold detail bytes lines a status.TapeFault refl
+open_fails hold detail bytes lines a left tape_error.OutOfMemory opens = unopened hold detail bytes lines a status.OutOfMemory refl
+open_fails hold detail bytes lines a left (tape_error.BadTape kind place) opens = headless hold detail bytes lines a _ _ opens refl refl
+open_fails hold detail bytes lines a left (tape_error.TapeFull tick) opens = headless hold detail bytes lines a _ _ opens refl refl
+open_fails hold detail bytes lines a left (tape_error.UnitTooLarge tick) opens = headless hold detail bytes lines a _ _ opens refl refl
+open_fails hold detail bytes lines a left (tape_error.AudioLength length) opens = headless hold detail bytes lines a _ _ opens refl refl
 
 -- ---- all of it
 
-pub ends_script : (detail : Detail) (bytes lines : List ℕ) (a b : Option (List ℕ)) (answer : TrialStatus) → (file_of bytes).head ≡ None
-    → EndsRun HasStep detail (file_of bytes) 1 (lines_of lines) start a b answer → AnswersScript detail bytes lines a b answer
-ends_script detail bytes lines a b answer none ends = record {
-  run = ends.run;
-  is_run = whole_run (file_of bytes) (lines_of lines) ends.run none ends.runs;
-  writes = ends.writes;
-}
+pub ends_script : RunsOverBytesHold → (detail : Detail) (bytes lines : List ℕ) (a b : Option (List ℕ)) (answer : TrialStatus) → (file_of bytes).head ≡ None
+    → EndsRun HasStep (new_reporter detail) (file_of bytes) 1 (lines_of lines) start a b answer → AnswersScript detail bytes lines a b answer
+ends_script hold detail bytes lines a b answer none ends =
+    answers hold detail bytes lines a b answer ends.run (whole_run (file_of bytes) (lines_of lines) ends.run none ends.runs) ends.writes
 
-pub finishes : (detail : Detail) (bytes lines : List ℕ) (a b c : Option (List ℕ)) (n : ℕ) (trial : Trial) (left : Option (List ℕ)) (answer : TrialStatus)
-    → (file_of bytes).head ≡ None → LedTo HasStep detail (file_of bytes) 1 (lines_of lines) start a b n [] trial left
-    → ((file : CaptureFile) (state : State) → StandsFor trial file left state → WritesRun trial.reporter.detail (finished file.fault state) b c answer)
-    → AnswersScript detail bytes lines a c answer
-finishes detail bytes lines a b c n trial left answer none led ends =
-    let file = file_of bytes in
-    let w : WritesRun detail (finished file.fault led.reached) b c answer =
-    subst (λ (d : Detail). WritesRun d (finished file.fault led.reached) b c answer) led.detail_is (ends file led.reached led.stands) in
-    ends_script detail bytes lines a c answer none
-    (ends_behind HasStep detail file 1 n (lines_of lines) [] start led.reached led.reports a b c answer led.run led.writes
-    (record { run = finished file.fault led.reached; runs = refl; writes = w }))
+-- behind all lines or steps the run ends as the file does
+pub finishes : {A : Type 0} (Has : ℕ → A → Option Step → Type 0) (before : Reporting) (file : CaptureFile) (steps : List A) (from : State) (a b c : Option (List ℕ))
+    (n : ℕ) (trial : Trial) (left : Option (List ℕ)) (answer : TrialStatus) → LedTo Has before file 1 steps from a b n [] trial left
+    → ((state : State) → StandsFor trial file left state → WritesBehind trial.reporter (finished file.fault state) b c answer)
+    → EndsRun Has before file 1 steps from a c answer
+finishes Has before file steps from a b c n trial left answer led ends =
+    ends_behind Has before trial.reporter file 1 n steps [] from led.reached led.reports a b c answer led.run led.detail_is led.writes
+    (record { run = finished file.fault led.reached; runs = refl; writes = ends led.reached led.stands })
 
 -- ---- what the calls say together
 
-pub finish_writes : (detail : Detail) (fault : Option Fault) (state : State) (a b : Option (List ℕ)) (before now : Reporting) (r : Result ⊤ TrialStatus)
-    → before.detail ≡ detail
-    → before.text ≡ [] → fault ≡ None → now ≡ with_reports before (totals_from 1 state.sessions ++ plain output.Done ∷ []) → OnOk r (Appends a b now.text)
-    → OnErr r (AppendsPart a b now.text) → IfErr r (λ e. (e ≡ status.WriteFault) ⊎ (e ≡ status.OutOfMemory))
-    → WritesRun detail (finished fault state) a b (answer_of r)
-finish_writes detail fault state a b before now (Ok done) same none whole is wrote part cause =
-    sums_text detail fault state a b before now same none whole is wrote
-finish_writes detail fault state a b before now (Err e) same none whole is wrote part cause =
-    sums_part detail fault state a b before now e same none whole is (not_of_run e cause) part
-
-pub script_unopened : (detail : Detail) (tape schedule a left : Option (List ℕ)) (e : TapeError) (answer : TrialStatus) → answer ≡ tape_status e
+pub script_unopened : RunsOverBytesHold → (detail : Detail) (tape schedule a left : Option (List ℕ)) (e : TapeError) (answer : TrialStatus) → answer ≡ tape_status e
     → Opens tape left (Err e)
     → AnswersIfTold detail tape schedule a a answer
-script_unopened detail None schedule a left e answer is opens = tt
-script_unopened detail (Some tape) None a left e answer is opens = tt
-script_unopened detail (Some tape) (Some schedule) a left e answer is opens =
-    subst (AnswersScript detail tape schedule a a) (sym is) (open_fails detail tape schedule a left e opens)
+script_unopened hold detail None schedule a left e answer is opens = tt
+script_unopened hold detail (Some tape) None a left e answer is opens = tt
+script_unopened hold detail (Some tape) (Some schedule) a left e answer is opens =
+    subst (AnswersScript detail tape schedule a a) (sym is) (open_fails hold detail tape schedule a left e opens)
 
-pub script_ends : (detail d : Detail) (tape schedule a b left : Option (List ℕ)) (feed : Feeding) (trial : Trial) (answer : TrialStatus) → d ≡ detail
-    → Opens tape left (Ok feed)
+pub script_ends : RunsOverBytesHold → (detail : Detail) (before : Reporting) (tape schedule a b left : Option (List ℕ)) (feed : Feeding) (trial : Trial) (answer : TrialStatus)
+    → before ≡ record { detail = detail; text = [] } → Opens tape left (Ok feed)
     → ((file : CaptureFile) (left : Option (List ℕ)) → IsFeedOf feed file left → StandsFor trial file left start)
     → ((file : CaptureFile) (state : State) (bytes : List ℕ) → StandsFor trial file left state → schedule ≡ Some bytes
-    → EndsRun HasStep d file 1 (lines_of bytes) state a b answer) → AnswersIfTold detail tape schedule a b answer
-script_ends detail d None schedule a b left feed trial answer same opens stands ends = tt
-script_ends detail d (Some tape) None a b left feed trial answer same opens stands ends = tt
-script_ends detail d (Some tape) (Some schedule) a b left feed trial answer same opens stands ends =
+    → EndsRun HasStep before file 1 (lines_of bytes) state a b answer) → AnswersIfTold detail tape schedule a b answer
+script_ends hold detail before None schedule a b left feed trial answer same opens stands ends = tt
+script_ends hold detail before (Some tape) None a b left feed trial answer same opens stands ends = tt
+script_ends hold detail before (Some tape) (Some schedule) a b left feed trial answer same opens stands ends =
     let file = file_of tape in
     let is = feed_of tape feed left opens in
-    ends_script detail tape schedule a b answer is.head
-    (subst (λ (k : Detail). EndsRun HasStep k file 1 (lines_of schedule) start a b answer) same (ends file start schedule (stands file left is) refl))
+    ends_script hold detail tape schedule a b answer is.head
+    (subst (λ (r : Reporting). EndsRun HasStep r file 1 (lines_of schedule) start a b answer) same (ends file start schedule (stands file left is) refl))
 
-pub script_finishes : (detail d : Detail) (tape schedule a b c left left' : Option (List ℕ)) (feed : Feeding) (trial new : Trial) (answer : TrialStatus)
-    → d ≡ detail
+pub script_finishes : RunsOverBytesHold → (detail : Detail) (before : Reporting) (tape schedule a b c left left' : Option (List ℕ)) (feed : Feeding) (trial new : Trial)
+    (answer : TrialStatus) → before ≡ record { detail = detail; text = [] }
     → Opens tape left (Ok feed) → ((file : CaptureFile) (left : Option (List ℕ)) → IsFeedOf feed file left → StandsFor trial file left start)
     → ((file : CaptureFile) (state : State) (bytes : List ℕ) → StandsFor trial file left state → schedule ≡ Some bytes
-    → (n : ℕ) × LedTo HasStep d file 1 (lines_of bytes) state a b n [] new left')
-    → ((file : CaptureFile) (state : State) → StandsFor new file left' state → WritesRun new.reporter.detail (finished file.fault state) b c answer)
+    → (n : ℕ) × LedTo HasStep before file 1 (lines_of bytes) state a b n [] new left')
+    → ((file : CaptureFile) (state : State) → StandsFor new file left' state → WritesBehind new.reporter (finished file.fault state) b c answer)
     → AnswersIfTold detail tape schedule a c answer
-script_finishes detail d None schedule a b c left left' feed trial new answer same opens stands led ends = tt
-script_finishes detail d (Some tape) None a b c left left' feed trial new answer same opens stands led ends = tt
-script_finishes detail d (Some tape) (Some schedule) a b c left left' feed trial new answer same opens stands led ends =
-    let file = file_of tape in
-    let is = feed_of tape feed left opens in
-    let l = led file start schedule (stands file left is) refl in
-    finishes detail tape schedule a b c l.0 new left' answer is.head
-    (subst (λ (k : Detail). LedTo HasStep k file 1 (lines_of schedule) start a b l.0 [] new left') same l.1) ends
+script_finishes hold detail before tape schedule a b c left left' feed trial new answer same opens stands led ends =
+    script_ends hold detail before tape schedule a c left feed trial answer same opens stands
+    (λ file state bytes there is. by file state bytes (led file state bytes there is) (ends file))
+  where
+    by : (file : CaptureFile) (state : State) (bytes : List ℕ) → (n : ℕ) × LedTo HasStep before file 1 (lines_of bytes) state a b n [] new left'
+        → ((state : State) → StandsFor new file left' state → WritesBehind new.reporter (finished file.fault state) b c answer)
+        → EndsRun HasStep before file 1 (lines_of bytes) state a c answer
+    by file state bytes led ends = finishes HasStep before file (lines_of bytes) state a b c led.0 new left' answer led.1 ends

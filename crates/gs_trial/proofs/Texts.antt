@@ -1,16 +1,18 @@
 -- The text of reports, and of reports behind others.
-use Rattle.std.proofs.Common.{◌≡◌, ◌+◌, ◌-◌, ℕ, List, [], ◌++◌, length, take, Option, sym, ap, subst, ◌∙◌, append_assoc}
-use Rattle.std.proofs.Common.{append-nil, arith, inl, inr}
+use Rattle.std.proofs.Common.{◌≡◌, ◌+◌, ℕ, List, [], ◌++◌, length, take, Option, sym, ap, subst, ◌∙◌, append_assoc}
+use Rattle.std.proofs.Common.{refl, append-nil, arith, inl, inr}
 use Rattle.std.specs.Io.KnownBytes.{Appends}
 use Rattle.std.proofs.KnownBytes.{Appends-nil, Appends-trans}
 use Rattle.std.proofs.lemmas.Grind.{flat_map-append}
 use Rattle.std.proofs.Math.Seq.{take-append_seam, take-append-add, take-length}
 use Rattle.std.proofs.lemmas.List.{take-append-le, take_all}
 use Rattle.std.proofs.lemmas.Bool.{cases_lt}
+use Rattle.gs_bytes.specs.Outside.{AppendsPart}
 use Rattle.gs_command.specs.declared.command.Detail.{Detail}
 use Rattle.gs_run.specs.Report.{Report, report_text, text_of}
 use Rattle.gs_report.specs.Reporting.{Reporting, with_reports}
 use Rattle.gs_trial.specs.Trial.{WritesFront}
+use Rattle.gs_trial.specs.Running.{WritesUpTo}
 
 pub text-append : (detail : Detail) (xs ys : List Report) → text_of detail (xs ++ ys) ≡ text_of detail xs ++ text_of detail ys
 text-append detail xs ys = flat_map-append (report_text detail) xs ys
@@ -26,9 +28,8 @@ with_more r xs ys =
     append_assoc r.text (text_of r.detail xs) (text_of r.detail ys) ∙ ap (λ (l : List ℕ). r.text ++ l) (sym (text-append r.detail xs ys)) in
     ap (λ (text : List ℕ). record r { text = text }) joined
 
--- where nothing waited, the text is that of the reports
-pub text_alone : (r : Reporting) (xs : List Report) → r.text ≡ [] → (with_reports r xs).text ≡ text_of r.detail xs
-text_alone r xs none = ap (λ (l : List ℕ). l ++ text_of r.detail xs) none
+pub more_text : (r : Reporting) (xs ys : List Report) → (with_reports r xs).text ++ text_of r.detail ys ≡ (with_reports r (xs ++ ys)).text
+more_text r xs ys = ap (λ (s : Reporting). s.text) (with_more r xs ys)
 
 -- ---- what is written
 
@@ -50,3 +51,51 @@ front_longer a c xs ys (n, f) = elim (cases_lt n (length xs)) [
       let all : take n xs ≡ take (length xs) (xs ++ ys) = take_all n xs more ∙ sym (take-append_seam xs ys) in
       (length xs, subst (Appends a c) all f)
 ]
+
+pub front_part : (a b : Option (List ℕ)) (text : List ℕ) → AppendsPart a b text → WritesFront a b text
+front_part a b text (n, less, wrote) = (n, wrote)
+
+-- ---- text that waits
+
+-- all of it
+pub up_to_none : (a : Option (List ℕ)) (text : List ℕ) → WritesUpTo a a text text
+up_to_none a text = ([], Appends-nil a, refl)
+
+-- none of it
+pub up_to_all : (a b : Option (List ℕ)) (text waits : List ℕ) → waits ≡ [] → Appends a b text → WritesUpTo a b text waits
+up_to_all a b text waits none wrote = (text, wrote, sym (append-nil text) ∙ ap (λ (l : List ℕ). text ++ l) (sym none))
+
+-- some of what waited was written
+pub up_to_on : (a b c : Option (List ℕ)) (text waits now : List ℕ) → WritesUpTo a b text waits → WritesUpTo b c waits now → WritesUpTo a c text now
+up_to_on a b c text waits now (w, p, e) (v, q, f) =
+    (w ++ v, Appends-trans a b c w v p q, e ∙ ap (λ (l : List ℕ). w ++ l) f ∙ sym (append_assoc w v now))
+
+longer : (text w waits more : List ℕ) → text ≡ w ++ waits → w ++ (waits ++ more) ≡ text ++ more
+longer text w waits more e = sym (ap (λ (l : List ℕ). l ++ more) e ∙ append_assoc w waits more)
+
+-- what waited got longer, and then some of it was written
+pub up_to_more : (a b c : Option (List ℕ)) (text waits more now : List ℕ) → WritesUpTo a b text waits → WritesUpTo b c (waits ++ more) now
+    → WritesUpTo a c (text ++ more) now
+up_to_more a b c text waits more now (w, p, e) (v, q, f) =
+    (w ++ v, Appends-trans a b c w v p q, sym (longer text w waits more e) ∙ ap (λ (l : List ℕ). w ++ l) f ∙ sym (append_assoc w v now))
+
+-- or all of it
+pub all_behind : (a b c : Option (List ℕ)) (text waits more : List ℕ) → WritesUpTo a b text waits → Appends b c (waits ++ more) → Appends a c (text ++ more)
+all_behind a b c text waits more (w, p, e) q =
+    subst (Appends a c) (longer text w waits more e) (Appends-trans a b c w (waits ++ more) p q)
+
+-- or a front of it
+pub front_on : (a b c : Option (List ℕ)) (text waits more : List ℕ) → WritesUpTo a b text waits → WritesFront b c (waits ++ more)
+    → WritesFront a c (text ++ more)
+front_on a b c text waits more (w, p, e) q =
+    subst (WritesFront a c) (longer text w waits more e) (front_behind a b c w (waits ++ more) p q)
+
+-- reports behind others
+pub up_to_reports : (before here : Reporting) (xs ys : List Report) (a b c : Option (List ℕ)) (now : List ℕ) → here.detail ≡ before.detail
+    → WritesUpTo a b (with_reports before xs).text here.text → WritesUpTo b c (with_reports here ys).text now
+    → WritesUpTo a c (with_reports before (xs ++ ys)).text now
+up_to_reports before here xs ys a b c now same first second =
+    let next : WritesUpTo b c (here.text ++ text_of before.detail ys) now =
+    subst (λ (d : Detail). WritesUpTo b c (here.text ++ text_of d ys) now) same second in
+    subst (λ (l : List ℕ). WritesUpTo a c l now) (more_text before xs ys)
+    (up_to_more a b c (with_reports before xs).text here.text (text_of before.detail ys) now first next)

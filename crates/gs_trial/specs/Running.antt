@@ -1,12 +1,13 @@
--- The run of lines, or of steps, on the way: what was run so far, and what is left to run.
-use Rattle.std.specs.Prelude.{ℕ, ◌≡◌, List, Option, Some, None, MatchBool}
+-- The run of lines, or of steps, on the way: what was run so far, and what is left to run. Their text is gathered before it
+-- is written: of what was reported a part waits.
+use Rattle.std.specs.Prelude.{ℕ, ◌≡◌, ◌++◌, List, Option, Some, None, MatchBool}
 use Rattle.std.specs.Io.KnownBytes.{Appends}
-use Rattle.gs_command.specs.declared.command.Detail.{Detail}
 use Rattle.gs_schedule.specs.declared.step.Step.{Step}
 use Rattle.gs_schedule.specs.declared.status.TrialStatus.{TrialStatus}
+use Rattle.gs_report.specs.Reporting.{Reporting, with_reports}
 use Rattle.gs_run.specs.CaptureFile.{CaptureFile}
 use Rattle.gs_run.specs.Session.{State}
-use Rattle.gs_run.specs.Report.{Report, text_of}
+use Rattle.gs_run.specs.Report.{Report}
 use Rattle.gs_run.specs.Deed.{Deed}
 use Rattle.gs_run.specs.Refusal.{Refusal}
 use Rattle.gs_run.specs.Done.{ran}
@@ -14,7 +15,30 @@ use Rattle.gs_run.specs.Line.{AreDeeds}
 use Rattle.gs_run.specs.Run.{Run, RunsFrom, behind, refusal_status}
 use Rattle.gs_trial.specs.declared.trial.Trial.{Trial}
 use Rattle.gs_trial.specs.Standing.{StandsFor}
-use Rattle.gs_trial.specs.Trial.{WritesFront, WritesRun, is_of_run}
+use Rattle.gs_trial.specs.Trial.{WritesFront, is_of_run}
+
+-- ---- text that waits
+
+-- a text was written, up to what waits of it
+abbrev pub WritesUpTo : (old new : Option (List ℕ)) → (text waits : List ℕ) → Type 0
+WritesUpTo old new text waits = (written : List ℕ) × Appends old new written × (text ≡ written ++ waits)
+
+-- A run ends with this answer, and what waited before it was written with the whole text of the run; a front of both where
+-- the answer isn't the run's.
+abbrev pub WritesBehind : Reporting → Run → (old new : Option (List ℕ)) → TrialStatus → Type 0
+WritesBehind before run old new answer =
+    MatchBool (is_of_run answer)
+    ((run.status ≡ answer) × Appends old new (with_reports before run.reports).text)
+    (WritesFront old new (with_reports before run.reports).text)
+
+-- the same trial, but for the text that waits
+pub record IsSameButText (old new : Trial) : Type 0 where
+  pub feed : new.feed ≡ old.feed
+  pub moment : new.moment ≡ old.moment
+  pub sessions : new.sessions ≡ old.sessions
+  pub detail : new.reporter.detail ≡ old.reporter.detail
+
+-- ---- lines, or steps
 
 -- Steps were run from one state to another, with these reports: whatever run those that are left have, with the reports
 -- before it, is one of all.
@@ -23,48 +47,50 @@ pub record Leads {A : Type 0} (Has : ℕ → A → Option Step → Type 0) (file
   pub leads : (run : Run) → RunsFrom Has file number' steps' state' run
       → RunsFrom Has file number steps state (behind reports run)
 
--- Steps were run, up to those that are left; the trial stands for what they left, and their text was written.
-pub record LedTo {A : Type 0} (Has : ℕ → A → Option Step → Type 0) (detail : Detail) (file : CaptureFile) (number : ℕ)
+-- Steps were run, up to those that are left; the trial stands for what they left, and of what waited before and their text
+-- it was written all but what waits now.
+pub record LedTo {A : Type 0} (Has : ℕ → A → Option Step → Type 0) (before : Reporting) (file : CaptureFile) (number : ℕ)
     (steps : List A) (state : State) (old new : Option (List ℕ)) (number' : ℕ) (steps' : List A) (trial : Trial)
     (left : Option (List ℕ)) : Type 0 where
   pub reached : State
   pub reports : List Report
   pub run : Leads Has file number steps state reports number' steps' reached
   pub stands : StandsFor trial file left reached
-  pub detail_is : trial.reporter.detail ≡ detail
-  pub writes : Appends old new (text_of detail reports)
+  pub detail_is : trial.reporter.detail ≡ before.detail
+  pub writes : WritesUpTo old new (with_reports before reports).text trial.reporter.text
 
--- The run of these steps ends with this answer, and its text was written; where the answer isn't the run's, a front of it.
-pub record EndsRun {A : Type 0} (Has : ℕ → A → Option Step → Type 0) (detail : Detail) (file : CaptureFile) (number : ℕ)
+-- The run of these steps ends with this answer, and what waited before and its text were written; where the answer isn't
+-- the run's, a front of both.
+pub record EndsRun {A : Type 0} (Has : ℕ → A → Option Step → Type 0) (before : Reporting) (file : CaptureFile) (number : ℕ)
     (steps : List A) (state : State) (old new : Option (List ℕ)) (answer : TrialStatus) : Type 0 where
   pub run : Run
   pub runs : RunsFrom Has file number steps state run
-  pub writes : WritesRun detail run old new answer
+  pub writes : WritesBehind before run old new answer
 
 -- ---- one step
 
--- the deeds of a step were done, and their text was written
-pub record RanStep (detail : Detail) (file : CaptureFile) (step : Step) (state : State) (old new : Option (List ℕ))
+-- the deeds of a step were done, and of what waited before and their text it was written all but what waits now
+pub record RanStep (before : Reporting) (file : CaptureFile) (step : Step) (state : State) (old new : Option (List ℕ))
     (trial : Trial) (left : Option (List ℕ)) : Type 0 where
   pub deeds : List Deed
   pub are_deeds : AreDeeds file step state deeds
   pub all : (ran file deeds state).refused ≡ None
   pub stands : StandsFor trial file left (ran file deeds state).state
-  pub detail_is : trial.reporter.detail ≡ detail
-  pub writes : Appends old new (text_of detail (ran file deeds state).reports)
+  pub detail_is : trial.reporter.detail ≡ before.detail
+  pub writes : WritesUpTo old new (with_reports before (ran file deeds state).reports).text trial.reporter.text
 
 -- they were refused, which is the answer
 abbrev pub IsRefused : ℕ → Option Refusal → TrialStatus → Type 0
 IsRefused number None answer = ⊥
 IsRefused number (Some why) answer = refusal_status number why ≡ answer
 
--- The deed of a step was refused, and the text of those before it was written; where the answer isn't the run's, a front of the
--- text of all.
-pub record EndsStep (detail : Detail) (file : CaptureFile) (number : ℕ) (step : Step) (state : State)
+-- The deed of a step was refused, and what waited before and the text of those before it were written; where the answer
+-- isn't the run's, a front of what waited and the text of all.
+pub record EndsStep (before : Reporting) (file : CaptureFile) (number : ℕ) (step : Step) (state : State)
     (old new : Option (List ℕ)) (answer : TrialStatus) : Type 0 where
   pub deeds : List Deed
   pub are_deeds : AreDeeds file step state deeds
   pub writes : MatchBool (is_of_run answer)
       (IsRefused number (ran file deeds state).refused answer
-      × Appends old new (text_of detail (ran file deeds state).reports))
-      (WritesFront old new (text_of detail (ran file deeds state).reports))
+      × Appends old new (with_reports before (ran file deeds state).reports).text)
+      (WritesFront old new (with_reports before (ran file deeds state).reports).text)

@@ -4,15 +4,11 @@ use Rattle.gs_bytes.specs.declared.failed.Failed.{Failed}
 use Rattle.gs_bytes.specs.declared.failed.Failed.TheVariants as failed
 use Rattle.gs_tape.specs.declared.error.TapeError.{TapeError}
 use Rattle.gs_tape.specs.declared.error.TapeError.TheVariants as tape_error
-use Rattle.gs_tape.specs.declared.write_error.WriteError.{WriteError}
-use Rattle.gs_tape.specs.declared.write_error.WriteError.TheVariants as write_error
 use Rattle.gs_tape.specs.Errors.{fault_of}
 use Rattle.gs_tape.specs.Reading.{Fault}
 use Rattle.gs_input.specs.Event.{IsKnown, HasButton}
 use Rattle.gs_schedule.specs.declared.step.Step.{Step}
 use Rattle.gs_schedule.specs.declared.step.Step.TheVariants as step
-use Rattle.gs_schedule.specs.declared.lines_error.LinesError.{LinesError}
-use Rattle.gs_schedule.specs.declared.lines_error.LinesError.TheVariants as lines_error
 use Rattle.gs_schedule.specs.declared.status.TrialStatus.{TrialStatus}
 use Rattle.gs_schedule.specs.declared.status.TrialStatus.TheVariants as status
 use Rattle.gs_report.specs.Reporting.{Reporting, with_reports}
@@ -110,12 +106,3 @@ step_status step_error.OutOfMemory line = status.OutOfMemory
 abbrev pub write_status : Failed → TrialStatus
 write_status failed.Fault = status.WriteFault
 write_status failed.NoMemory = status.OutOfMemory
-
-abbrev pub lines_status : LinesError → TrialStatus
-lines_status lines_error.ReadFault = status.ScheduleFault
-lines_status (lines_error.TooLong line) = status.BadSchedule line
-lines_status lines_error.OutOfMemory = status.OutOfMemory
-
-abbrev pub file_status : WriteError → TrialStatus
-file_status write_error.WriteFault = status.WriteFault
-file_status write_error.OutOfMemory = status.OutOfMemory

@@ -1,6 +1,7 @@
 -- What a trial writes and answers. What an object doesn't tell is `None`.
-use Rattle.std.specs.Prelude.{ℕ, ◌≡◌, ◌≢◌, Bool, true, false, List, take, Option, Some, None, Result, Ok, Err}
+use Rattle.std.specs.Prelude.{ℕ, ◌≡◌, ◌≢◌, ◌⊎◌, ◌<◌, ◌^◌, Bool, true, false, List, take, Option, Some, None, Result, Ok, Err}
 use Rattle.std.specs.Prelude.{MatchBool, ⊤}
+use Rattle.std.specs.List.{All}
 use Rattle.std.specs.Io.KnownBytes.{Appends}
 use Rattle.gs_bytes.specs.Outside.{Rose}
 use Rattle.gs_command.specs.declared.command.Detail.{Detail}
@@ -10,9 +11,10 @@ use Rattle.gs_command.specs.declared.command.TrialCommand.TheVariants.{Script, M
 use Rattle.gs_schedule.specs.Lines.{lines_of}
 use Rattle.gs_schedule.specs.declared.status.TrialStatus.{TrialStatus}
 use Rattle.gs_schedule.specs.declared.status.TrialStatus.TheVariants as status
-use Rattle.gs_run.specs.CaptureFile.{file_of}
+use Rattle.gs_run.specs.CaptureFile.{file_of, generated_file}
 use Rattle.gs_run.specs.Run.{Run, IsRun, run_text}
 use Rattle.gs_run.specs.Generated.{IsGeneratedRun, generated_bytes}
+use Rattle.gs_run.specs.WholeRun.{RunHolds}
 
 -- the answers that a run itself gives; the others are of an object that failed, and of want of memory
 abbrev pub is_of_run : TrialStatus → Bool
@@ -34,23 +36,26 @@ WritesRun detail run old new answer =
     ((run.status ≡ answer) × Appends old new (run_text detail run))
     (WritesFront old new (run_text detail run))
 
--- the run of a schedule with these bytes over the capture file with these
+-- The run of a schedule with these bytes over the capture file with these. What holds of every run over bytes holds of it:
+-- of what its sessions did behind each deed, and of its lines.
 pub record AnswersScript (detail : Detail) (tape schedule : List ℕ) (old new : Option (List ℕ)) (answer : TrialStatus)
     : Type 0 where
   pub run : Run
   pub is_run : IsRun (file_of tape) (lines_of schedule) run
   pub writes : WritesRun detail run old new answer
+  pub holds : All (λ b. b < 2 ^ 8) tape → RunHolds (file_of tape) run
 
 abbrev pub AnswersIfTold : Detail → (tape schedule old new : Option (List ℕ)) → TrialStatus → Type 0
 AnswersIfTold detail None schedule old new answer = ⊤
 AnswersIfTold detail (Some tape) None old new answer = ⊤
 AnswersIfTold detail (Some tape) (Some schedule) old new answer = AnswersScript detail tape schedule old new answer
 
--- the generated run, of which the sums are written
+-- the generated run, of which the sums are written, and what holds of every run
 pub record AnswersMake (number ticks : ℕ) (old new : Option (List ℕ)) (answer : TrialStatus) : Type 0 where
   pub run : Run
   pub is_run : IsGeneratedRun number ticks run
   pub writes : WritesRun Sums run old new answer
+  pub holds : RunHolds (generated_file number ticks) run
 
 abbrev pub AnswersTape : ℕ → ℕ → (old new : Option (List ℕ)) → TrialStatus → Type 0
 AnswersTape number ticks old new status.Ok = Appends old new (generated_bytes number ticks)
@@ -60,6 +65,19 @@ abbrev pub Answers : TrialCommand → (tape schedule old new : Option (List ℕ)
 Answers (Script detail) tape schedule old new answer = AnswersIfTold detail tape schedule old new answer
 Answers (Make generated) tape schedule old new answer = AnswersMake generated.number generated.ticks old new answer
 Answers (Tape generated) tape schedule old new answer = AnswersTape generated.number generated.ticks old new answer
+
+-- where both sources tell their bytes and the run of them ends well, only memory may be wanting
+abbrev pub CompletesIfTold : (tape schedule : Option (List ℕ)) → TrialStatus → Type 0
+CompletesIfTold None schedule answer = ⊤
+CompletesIfTold (Some tape) None answer = ⊤
+CompletesIfTold (Some tape) (Some schedule) answer =
+    (run : Run) → IsRun (file_of tape) (lines_of schedule) run → run.status ≡ status.Ok
+    → (answer ≡ status.Ok) ⊎ (answer ≡ status.OutOfMemory)
+
+-- the head of the capture file is in order, where its bytes are told
+abbrev pub HasHead : Option (List ℕ) → Type 0
+HasHead None = ⊤
+HasHead (Some bytes) = (file_of bytes).head ≡ None
 
 -- nothing is read by what generates
 abbrev pub IsGenerating : TrialCommand → Type 0

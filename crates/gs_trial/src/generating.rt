@@ -12,6 +12,7 @@ use gs_command::Generated;
 use gs_feed::Feed;
 use gs_generated::GeneratedFile;
 use gs_report::Detail;
+use gs_run::whole_runs_hold;
 use gs_schedule::TrialStatus;
 use std::alloc::Global;
 
@@ -80,6 +81,7 @@ pub(crate) fn make<K: Sink>(
     ensures not_schedule { IfErr result (λ e. e ≢ TrialStatus.ScheduleFault) }
     ensures write_faults { CountsFor TrialStatus.WriteFault result (K.faults out.old) (K.faults out.new) }
 {
+    whole_runs_hold();
     let Ok(steps) = generated_steps(alloc, generated.ticks) else {
         return Err(TrialStatus::OutOfMemory);
     };

@@ -7,7 +7,8 @@
 //!
 //! The contract of `trial_main` is the run of a schedule over a capture file (`IsRun` of `gs_run`): at `Ok`, and at each
 //! answer that the run itself gives, what was written is the run's text (`run_text`); at any other answer it is a front of
-//! it. What is known of every run is a law of `gs_run`.
+//! it. What is known of every run is a law of `gs_run`, and the contract says it of this one: that each session's history
+//! is one that a host may have, and that each unit that was handed or played is the captured one, for instance.
 #![tactic(auto)]
 
 mod error;

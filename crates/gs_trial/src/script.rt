@@ -12,18 +12,20 @@ ghost use Rattle.gs_run.specs.Run.{finished};
 ghost use Rattle.gs_run.specs.Totals.{totals_from};
 ghost use Rattle.gs_report.specs.Reporting.{with_reports};
 ghost use Rattle.gs_trial.specs.Standing.{AreSessions, IsReady, StandsFor};
-ghost use Rattle.gs_trial.specs.Trial.{AnswersIfTold, CountsFor, IsCause, WritesRun, answer_of};
+ghost use Rattle.gs_trial.specs.Running.{WritesBehind};
+ghost use Rattle.gs_trial.specs.Trial.{AnswersIfTold, CountsFor, HasHead, IsCause, answer_of};
 
 use crate::error::tape_status;
 use crate::trial::Trial;
 use gs_bytes::{OutOfMemory, Sink, Source};
 use gs_feed::Feed;
 use gs_report::Detail;
+use gs_run::whole_runs_hold;
 use gs_schedule::{Output, TrialStatus};
 use std::alloc::Global;
 
-/// Runs a schedule over a capture file: the file's head, then line after line, each acted on and its text written before the
-/// next is read, then the rest of the file, then the sums and `ok`.
+/// Runs a schedule over a capture file: the file's head, then line after line, then the rest of the file, then the sums and
+/// `ok`. What lines report is gathered, and written before either is read again.
 pub(crate) fn run_script<S: Source, T: Source, K: Sink>(
     alloc: Global,
     detail: Detail,
@@ -33,12 +35,14 @@ pub(crate) fn run_script<S: Source, T: Source, K: Sink>(
 ) -> Result<(), TrialStatus>
     ensures answers { AnswersIfTold detail (S.left tape.old) (T.left schedule.old) (K.written out.old) (K.written out.new) (answer_of result) }
     ensures cause { IfErr result IsCause }
-    ensures at_end { OnOk result (IsAtEnd (T.left schedule.new)) }
-    ensures met_end { OnOk result (SetsFlag (S.met_end tape.old) (S.met_end tape.new)) }
+    ensures head_first { IfErr result (λ e. e ≡ TrialStatus.ScheduleFault → HasHead (S.left tape.old)) }
+    ensures at_end { OnOk result (IsAtEnd (S.left tape.new) × IsAtEnd (T.left schedule.new)) }
+    ensures met_end { OnOk result (SetsFlag (S.met_end tape.old) (S.met_end tape.new) × SetsFlag (T.met_end schedule.old) (T.met_end schedule.new)) }
     ensures tape_faults { CountsFor TrialStatus.TapeFault result (S.faults tape.old) (S.faults tape.new) }
     ensures schedule_faults { CountsFor TrialStatus.ScheduleFault result (T.faults schedule.old) (T.faults schedule.new) }
     ensures write_faults { CountsFor TrialStatus.WriteFault result (K.faults out.old) (K.faults out.new) }
 {
+    whole_runs_hold();
     let feed = match Feed::open(alloc, tape) {
         Ok(feed) => feed,
         Err(error) => return Err(tape_status(error)),
@@ -49,22 +53,23 @@ pub(crate) fn run_script<S: Source, T: Source, K: Sink>(
 }
 
 impl Trial {
-    /// Reads the rest of the capture file, and writes the sums.
+    /// Writes what waits, reads the rest of the capture file, and writes the sums.
     pub(crate) fn finish<S: Source, K: Sink>(
         &mut self,
         tape: &mut S,
         out: &mut K,
     ) -> Result<(), TrialStatus>
         requires ready { IsReady self.old }
-        requires empty { self.old.reporter.text ≡ [] }
         ensures finishes { (file : CaptureFile) (state : State) → StandsFor self.old file (S.left tape.old) state
-            → WritesRun self.old.reporter.detail (finished file.fault state) (K.written out.old) (K.written out.new) (answer_of result) }
+            → WritesBehind self.old.reporter (finished file.fault state) (K.written out.old) (K.written out.new) (answer_of result) }
         ensures cause { IfErr result IsCause }
         ensures not_schedule { IfErr result (λ e. e ≢ TrialStatus.ScheduleFault) }
+        ensures at_end { OnOk result (IsAtEnd (S.left tape.new)) }
         ensures met_end { OnOk result (SetsFlag (S.met_end tape.old) (S.met_end tape.new)) }
         ensures tape_faults { CountsFor TrialStatus.TapeFault result (S.faults tape.old) (S.faults tape.new) }
         ensures write_faults { CountsFor TrialStatus.WriteFault result (K.faults out.old) (K.faults out.new) }
     {
+        self.write_text(out)?;
         if let Err(error) = self.feed.finish(tape) {
             return Err(tape_status(error));
         }

@@ -1,8 +1,7 @@
 // Steps that are run one after the other.
 
-ghost use Rattle.std.specs.Prelude.{◌≡◌, ◌≢◌, ◌<◌, ◌-◌, ◌^◌, [], ℕ, IfErr, OnOk, length};
+ghost use Rattle.std.specs.Prelude.{◌≢◌, ◌<◌, ◌-◌, ◌^◌, [], ℕ, IfErr, OnOk, length};
 ghost use Rattle.std.specs.List.{All};
-ghost use Rattle.gs_bytes.specs.Outside.{KeepsFlag};
 ghost use Rattle.gs_run.specs.CaptureFile.{CaptureFile};
 ghost use Rattle.gs_run.specs.Run.{IsStep};
 ghost use Rattle.gs_run.specs.Session.{State};
@@ -16,7 +15,7 @@ use gs_bytes::{Sink, Source};
 use gs_schedule::{Step, TrialStatus};
 
 impl Trial {
-    /// Runs step after step, up to the first at fault. The text of each is written before the next is run.
+    /// Runs step after step, up to the first at fault. What they report is gathered.
     pub(crate) fn run_steps<S: Source, K: Sink>(
         &mut self,
         steps: &[Step],
@@ -26,14 +25,12 @@ impl Trial {
         requires proper { All IsProper steps.now }
         requires few { length steps.now < 2 ^ 32 - 1 }
         requires ready { IsReady self.old }
-        requires empty { self.old.reporter.text ≡ [] }
         ensures ready { OnOk result (IsReady self.new) }
-        ensures empty { OnOk result (self.new.reporter.text ≡ []) }
         ensures led { OnOk result ((file : CaptureFile) (state : State) → StandsFor self.old file (S.left tape.old) state
-            → (n : ℕ) × LedTo IsStep self.old.reporter.detail file 1 steps.now state
+            → (n : ℕ) × LedTo IsStep self.old.reporter file 1 steps.now state
             (K.written out.old) (K.written out.new) n [] self.new (S.left tape.new)) }
         ensures ends { IfErr result (λ answer. (file : CaptureFile) (state : State) → StandsFor self.old file (S.left tape.old) state
-            → EndsRun IsStep self.old.reporter.detail file 1 steps.now state (K.written out.old) (K.written out.new) answer) }
+            → EndsRun IsStep self.old.reporter file 1 steps.now state (K.written out.old) (K.written out.new) answer) }
         ensures cause { IfErr result IsCause }
         ensures not_schedule { IfErr result (λ e. e ≢ TrialStatus.ScheduleFault) }
         ensures tape_faults { CountsFor TrialStatus.TapeFault result (S.faults tape.old) (S.faults tape.new) }

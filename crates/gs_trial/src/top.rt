@@ -5,7 +5,7 @@ ghost use Rattle.std.specs.Io.KnownBytes.{IsAtEnd};
 ghost use Rattle.gs_bytes.specs.Outside.{Rose, SetsFlag};
 ghost use Rattle.gs_command.specs.Words.{command_of, first_misfit};
 ghost use Rattle.gs_command.specs.declared.command.Detail as spec;
-ghost use Rattle.gs_trial.specs.Trial.{Answers, IsGenerating, answer_of};
+ghost use Rattle.gs_trial.specs.Trial.{Answers, CompletesIfTold, HasHead, IsGenerating, answer_of};
 
 use crate::generating::{make, write_tape};
 use crate::script::run_script;
@@ -17,10 +17,12 @@ use std::alloc::Global;
 /// Runs the command that the words are, over a capture file and a schedule, and writes what a run reports.
 ///
 /// `script bytes TAPE SCHEDULE` and `script brief TAPE SCHEDULE` run the schedule over the capture file: the file's head is
-/// read, then line after line of the schedule, each acted on and its text written before the next is read, then the rest of
-/// the file; then the sums and `ok` are written. The first fault in that order ends it, and what was written stays. `make N T`
-/// runs the schedule that is generated over the generated capture, and writes the sums and `ok`. `tape N T` writes the
-/// generated capture file. These two read no source.
+/// read, then line after line of the schedule, then the rest of the file; then the sums and `ok` are written. The first fault
+/// in that order ends it, and what was written stays. The text of the lines is gathered into pieces of some 64 KiB, and what
+/// waits is written before a read of either source: so who types a schedule sees what each line did, and where a read fails
+/// nothing that was done before is lost. Where memory runs out what waits isn't written. `make N T` runs the schedule that is
+/// generated over the generated capture, and writes the sums and `ok`. `tape N T` writes the generated capture file. These
+/// two read no source.
 pub fn trial_main<S: Source, T: Source, K: Sink>(
     alloc: Global,
     words: &[String],
@@ -35,15 +37,22 @@ pub fn trial_main<S: Source, T: Source, K: Sink>(
 
     // Which sources are read, and how far.
     ensures whole { (detail : spec.Detail) → command_of (map string_bytes words.now) ≡ Some (TrialCommand.Script detail)
-        → result ≡ TrialStatus.Ok → SetsFlag (S.met_end tape.old) (S.met_end tape.new) × IsAtEnd (T.left schedule.new) }
+        → result ≡ TrialStatus.Ok → SetsFlag (S.met_end tape.old) (S.met_end tape.new) × IsAtEnd (S.left tape.new)
+        × SetsFlag (T.met_end schedule.old) (T.met_end schedule.new) × IsAtEnd (T.left schedule.new) }
     ensures generated_reads_nothing { (command : TrialCommand) → command_of (map string_bytes words.now) ≡ Some command
         → IsGenerating command → (tape.new ≡ tape.old) × (schedule.new ≡ schedule.old) }
     ensures usage_changes_nothing { IsSome (first_misfit (map string_bytes words.now))
         → (tape.new ≡ tape.old) × (schedule.new ≡ schedule.old) × (out.new ≡ out.old) }
 
-    // The causes of its answers.
+    // A run that ends well is answered so where no object failed and memory sufficed.
+    ensures complete { (detail : spec.Detail) → command_of (map string_bytes words.now) ≡ Some (TrialCommand.Script detail)
+        → (Rose (S.faults tape.old) (S.faults tape.new) → ⊥) → (Rose (T.faults schedule.old) (T.faults schedule.new) → ⊥)
+        → (Rose (K.faults out.old) (K.faults out.new) → ⊥) → CompletesIfTold (S.left tape.old) (T.left schedule.old) result }
+
+    // The causes of its answers; the schedule is read behind the capture file's head.
     ensures tape_fault { result ≡ TrialStatus.TapeFault → Rose (S.faults tape.old) (S.faults tape.new) }
     ensures schedule_fault { result ≡ TrialStatus.ScheduleFault → Rose (T.faults schedule.old) (T.faults schedule.new) }
+    ensures head_first { result ≡ TrialStatus.ScheduleFault → HasHead (S.left tape.old) }
     ensures write_fault { result ≡ TrialStatus.WriteFault → Rose (K.faults out.old) (K.faults out.new) }
     ensures tape_counted { S.faults tape.new ≢ S.faults tape.old → result ≡ TrialStatus.TapeFault }
     ensures schedule_counted { T.faults schedule.new ≢ T.faults schedule.old → result ≡ TrialStatus.ScheduleFault }

@@ -1,8 +1,6 @@
-use Rattle.std.proofs.Common.{◌≡◌, ◌∙◌, ◌<◌, ◌-◌, ◌^◌, List, length, ap, subst, sym}
+use Rattle.std.proofs.Common.{◌∙◌, ◌<◌, ◌-◌, ◌^◌, List, length, subst, sym}
 use Rattle.std.specs.List.{All}
 use Rattle.std.proofs.lemmas.Result.{err_from_is_err_and}
-use Rattle.gs_report.specs.Reporting.{Reporting}
-use Rattle.gs_command.specs.declared.command.Detail.TheVariants.{Sums}
 use Rattle.gs_schedule.specs.declared.step.Step.{Step}
 use Rattle.gs_trial.specs.Stepping.{IsProper}
 use Rattle.gs_trial.proofs.GeneratedSteps.{few_steps, proper_steps}
@@ -10,13 +8,13 @@ use Rattle.gs_trial.proofs.Made.{make_ends, make_finishes, unmade}
 use Rattle.gs_trial.proofs.generating.make.Goals as goal
 
 pub returns-in_default-clause-answers : goal.returns-in_default-clause-answers
-returns-in_default-clause-answers g c = unmade c.args.generated.number c.args.generated.ticks _
+returns-in_default-clause-answers g c = unmade c.whole_runs_hold.ensures.generated c.args.generated.number c.args.generated.ticks c.requires.few _
 
 pub returns-in_default-open-clause-answers : goal.returns-in_default-open-clause-answers
-returns-in_default-open-clause-answers g c = unmade c.args.generated.number c.args.generated.ticks _
+returns-in_default-open-clause-answers g c = unmade c.whole_runs_hold.ensures.generated c.args.generated.number c.args.generated.ticks c.requires.few _
 
 pub returns-in_default-open-2-clause-answers : goal.returns-in_default-open-2-clause-answers
-returns-in_default-open-2-clause-answers g c = unmade c.args.generated.number c.args.generated.ticks _
+returns-in_default-open-2-clause-answers g c = unmade c.whole_runs_hold.ensures.generated c.args.generated.number c.args.generated.ticks c.requires.few _
 
 pub run_steps-requires-clause-proper : goal.run_steps-requires-clause-proper
 run_steps-requires-clause-proper g c =
@@ -30,19 +28,17 @@ pub returns-in_err-run_steps-clause-answers : goal.returns-in_err-run_steps-clau
 returns-in_err-run_steps-clause-answers g c =
     let p = err_from_is_err_and c.from_residual.result c.from_residual.ensures.1 in
     let trial = c.new-trial.result in
-    let detail : trial.reporter.detail ≡ Sums = ap (λ (r : Reporting). r.detail) c.new-trial.ensures.text in
     rw (p.1, p.2)
-    (make_ends c.args.generated.number c.args.generated.ticks trial.reporter.detail c.in-Ok-open.file.left c.deref.result.now c.in-Ok-open-2.feed trial
+    (make_ends c.whole_runs_hold.ensures.generated c.args.generated.number c.args.generated.ticks trial.reporter c.in-Ok-open.file.left c.deref.result.now c.in-Ok-open-2.feed trial
     (g.K.Outside.written c.args.out.now) (g.K.Outside.written c.run_steps.new.out) _ c.in_err-run_steps.field-0.0 c.requires.few c.in-Ok-open.ensures
-    (c.deref.ensures.value ∙ c.in-Ok.ensures.steps) detail
+    (c.deref.ensures.value ∙ c.in-Ok.ensures.steps) c.new-trial.ensures.text
     c.in-Ok-open-2.ensures.opens c.new-trial.ensures.stands c.in_err-run_steps.ensures.ends)
 
 pub returns-clause-answers : goal.returns-clause-answers
 returns-clause-answers g c =
     let trial = c.new-trial.result in
-    let detail : trial.reporter.detail ≡ Sums = ap (λ (r : Reporting). r.detail) c.new-trial.ensures.text in
-    make_finishes c.args.generated.number c.args.generated.ticks trial.reporter.detail c.in-Ok-open.file.left c.deref.result.now c.in-Ok-open-2.feed trial
+    make_finishes c.whole_runs_hold.ensures.generated c.args.generated.number c.args.generated.ticks trial.reporter c.in-Ok-open.file.left c.deref.result.now c.in-Ok-open-2.feed trial
     c.run_steps.new.self (g.K.Outside.written c.args.out.now) (g.K.Outside.written c.run_steps.new.out) (g.K.Outside.written c.finish.new.out) _ _ _
     c.requires.few
-    c.in-Ok-open.ensures (c.deref.ensures.value ∙ c.in-Ok.ensures.steps) detail c.in-Ok-open-2.ensures.opens c.new-trial.ensures.stands
+    c.in-Ok-open.ensures (c.deref.ensures.value ∙ c.in-Ok.ensures.steps) c.new-trial.ensures.text c.in-Ok-open-2.ensures.opens c.new-trial.ensures.stands
     c.in_ok-run_steps.ensures.led c.finish.ensures.finishes

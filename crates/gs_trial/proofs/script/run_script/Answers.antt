@@ -1,12 +1,12 @@
-use Rattle.std.proofs.Common.{◌≡◌, ap}
 use Rattle.std.proofs.lemmas.Result.{err_from_is_err_and}
-use Rattle.gs_report.specs.Reporting.{Reporting}
+use Rattle.std.proofs.Common.{sym, ◌∙◌}
+use Rattle.gs_trial.proofs.Heads.{head_of_open, in_any_case, not_of_schedule}
 use Rattle.gs_trial.proofs.Scripts.{script_ends, script_finishes, script_unopened}
 use Rattle.gs_trial.proofs.script.run_script.Goals as goal
 
 pub returns-in-Err-clause-answers : goal.returns-in-Err-clause-answers
 returns-in-Err-clause-answers g c =
-    script_unopened c.args.detail (g.S.Outside.left c.args.tape.now) (g.T.Outside.left c.args.schedule.now)
+    script_unopened c.whole_runs_hold.ensures.bytes c.args.detail (g.S.Outside.left c.args.tape.now) (g.T.Outside.left c.args.schedule.now)
     (g.K.Outside.written c.args.out.now) _ c.in-Err.error
     c.tape_status.result c.tape_status.ensures c.in-Err.ensures.opens
 
@@ -14,18 +14,27 @@ pub returns-in_err-run_lines-clause-answers : goal.returns-in_err-run_lines-clau
 returns-in_err-run_lines-clause-answers g c =
     let p = err_from_is_err_and c.from_residual.result c.from_residual.ensures.1 in
     let trial = c.new-trial.result in
-    let detail : trial.reporter.detail ≡ c.args.detail = ap (λ (r : Reporting). r.detail) c.new-trial.ensures.text in
     rw (p.1, p.2)
-    (script_ends c.args.detail trial.reporter.detail (g.S.Outside.left c.args.tape.now) (g.T.Outside.left c.args.schedule.now)
+    (script_ends c.whole_runs_hold.ensures.bytes c.args.detail trial.reporter (g.S.Outside.left c.args.tape.now) (g.T.Outside.left c.args.schedule.now)
     (g.K.Outside.written c.args.out.now)
-    (g.K.Outside.written c.run_lines.new.out) _ c.in-Ok.feed trial c.in_err-run_lines.field-0.0 detail c.in-Ok.ensures.opens c.new-trial.ensures.stands
+    (g.K.Outside.written c.run_lines.new.out) _ c.in-Ok.feed trial c.in_err-run_lines.field-0.0 c.new-trial.ensures.text c.in-Ok.ensures.opens c.new-trial.ensures.stands
     c.in_err-run_lines.ensures.ends)
 
 pub returns-clause-answers : goal.returns-clause-answers
 returns-clause-answers g c =
     let trial = c.new-trial.result in
-    let detail : trial.reporter.detail ≡ c.args.detail = ap (λ (r : Reporting). r.detail) c.new-trial.ensures.text in
-    script_finishes c.args.detail trial.reporter.detail (g.S.Outside.left c.args.tape.now) (g.T.Outside.left c.args.schedule.now)
+    script_finishes c.whole_runs_hold.ensures.bytes c.args.detail trial.reporter (g.S.Outside.left c.args.tape.now) (g.T.Outside.left c.args.schedule.now)
     (g.K.Outside.written c.args.out.now)
-    (g.K.Outside.written c.run_lines.new.out) (g.K.Outside.written c.finish.new.out) _ _ c.in-Ok.feed trial c.run_lines.new.self _ detail c.in-Ok.ensures.opens
+    (g.K.Outside.written c.run_lines.new.out) (g.K.Outside.written c.finish.new.out) _ _ c.in-Ok.feed trial c.run_lines.new.self _ c.new-trial.ensures.text c.in-Ok.ensures.opens
     c.new-trial.ensures.stands c.in_ok-run_lines.ensures.led c.finish.ensures.finishes
+
+pub returns-in-Err-clause-head_first : goal.returns-in-Err-clause-head_first
+returns-in-Err-clause-head_first g c = λ is. not_of_schedule c.in-Err.error _ (sym c.tape_status.ensures ∙ is)
+
+pub returns-in_err-run_lines-clause-head_first : goal.returns-in_err-run_lines-clause-head_first
+returns-in_err-run_lines-clause-head_first g c =
+    in_any_case c.from_residual.result _ (head_of_open (g.S.Outside.left c.args.tape.now) _ c.in-Ok.feed c.in-Ok.ensures.opens)
+
+pub returns-clause-head_first : goal.returns-clause-head_first
+returns-clause-head_first g c =
+    in_any_case c.finish.result _ (head_of_open (g.S.Outside.left c.args.tape.now) _ c.in-Ok.feed c.in-Ok.ensures.opens)

@@ -1,14 +1,35 @@
-use Rattle.std.proofs.Common.{◌∙◌, refl, sym}
+use Rattle.std.proofs.Common.{◌∙◌, refl, subst, sym}
+use Rattle.gs_schedule.specs.declared.status.TrialStatus.{TrialStatus}
+use Rattle.gs_schedule.specs.declared.status.TrialStatus.TheVariants as status
+use Rattle.gs_run.specs.Run.{finished}
+use Rattle.gs_trial.specs.Running.{WritesBehind}
+use Rattle.gs_trial.proofs.Leading.{front_of, same_stands}
 use Rattle.gs_trial.proofs.Results.{on_ok}
-use Rattle.gs_trial.proofs.Scripts.{finish_writes}
+use Rattle.gs_trial.proofs.Scripts.{finish_fails, finish_writes}
+use Rattle.gs_trial.proofs.Texts.{front_all}
 use Rattle.gs_trial.proofs.trial.Trial.finish.Goals as goal
 
 pub returns-clause-finishes : goal.returns-clause-finishes
 returns-clause-finishes g c = λ file state stands.
     let old = c.args.self.now.reporter in
+    let wrote = c.in_ok-write_text.ensures in
+    let here = same_stands c.args.self.now c.write_text.new.self file _ state wrote.kept stands in
     let sums = on_ok c.report_sums.result _ (sym c.is_err.ensures.value ∙ c.if-is_err.false) c.report_sums.ensures.sums in
-    finish_writes old.detail file.fault state (g.K.Outside.written c.args.out.now)
-    (g.K.Outside.written c.write_text.new.out) old c.report_sums.new.self.reporter
-    c.write_text.result refl c.requires.empty (c.in_default.ensures.ends file.ticks file.fault stands.feed.stands)
-    (sums file.ticks state.sessions stands.sessions)
-    c.write_text.ensures.ok c.write_text.ensures.err c.write_text.ensures.cause
+    finish_writes old c.write_text.new.self.reporter c.report_sums.new.self.reporter file.fault state _ _ (g.K.Outside.written c.write_text-2.new.out)
+    c.write_text-2.result wrote.ok wrote.kept.detail wrote.empty (c.in_default.ensures.ends file.ticks file.fault here.feed.stands)
+    (sums file.ticks state.sessions here.sessions)
+    c.write_text-2.ensures.ok c.write_text-2.ensures.err c.write_text-2.ensures.cause
+
+pub returns-in-Err-clause-finishes : goal.returns-in-Err-clause-finishes
+returns-in-Err-clause-finishes g c = λ file state stands.
+    let old = c.args.self.now.reporter in
+    let wrote = c.in_ok-write_text.ensures in
+    let here = same_stands c.args.self.now c.write_text.new.self file _ state wrote.kept stands in
+    subst (λ (s : TrialStatus). WritesBehind old (finished file.fault state) (g.K.Outside.written c.args.out.now) (g.K.Outside.written c.write_text.new.out) s)
+    (sym c.tape_status.ensures)
+    (finish_fails old file.fault state _ _ c.in-Err.error (c.in-Err.ensures.ends file.ticks file.fault here.feed.stands) wrote.ok)
+
+pub returns-then-is_err-clause-finishes : goal.returns-then-is_err-clause-finishes
+returns-then-is_err-clause-finishes g c = λ file state stands.
+    let old = c.args.self.now.reporter in
+    front_of old (finished file.fault state) _ _ status.OutOfMemory refl (front_all _ _ old.text c.in_ok-write_text.ensures.ok)

@@ -9,14 +9,15 @@ run_step-requires-clause-proper g c = proper c.as_bytes.result.now c.in-Some.ste
 
 pub returns-in_default-clause-ends : goal.returns-in_default-clause-ends
 returns-in_default-clause-ends g c = λ file state rest stands.
-    ends_bad c.args.self.now.reporter.detail file c.args.line.now.number c.args.line.now.bytes rest state (g.K.Outside.written c.args.out.now)
+    ends_bad c.args.self.now.reporter file c.args.line.now.number c.args.line.now.bytes rest state _ _ _
     (has_none c.args.line.now.number c.args.line.now.bytes c.as_bytes.result.now c.read_line.result c.as_bytes.ensures c.in_default.is c.read_line.ensures)
+    (c.end_at.ensures.ends state)
 
 pub returns-clause-led : goal.returns-clause-led
 returns-clause-led g c =
     on_more c.run_step.result _ _
     (λ ran. λ file state rest stands.
-    led_line c.args.self.now.reporter.detail file c.args.line.now.number c.args.line.now.bytes rest state c.in-Some.step _ _ _ c.run_step.new.self
+    led_line c.args.self.now.reporter file c.args.line.now.number c.args.line.now.bytes rest state c.in-Some.step _ _ _ c.run_step.new.self
     (has_step c.args.line.now.number c.args.line.now.bytes c.as_bytes.result.now c.read_line.result c.in-Some.step c.as_bytes.ensures c.in-Some.is
     c.read_line.ensures c.requires.short c.requires.numbered)
     (ran file state stands))
@@ -26,7 +27,7 @@ pub returns-clause-ends : goal.returns-clause-ends
 returns-clause-ends g c =
     err_more c.run_step.result _ _
     (λ answer ends. λ file state rest stands.
-    ends_line c.args.self.now.reporter.detail file c.args.line.now.number c.args.line.now.bytes rest state c.in-Some.step _ _ answer
+    ends_line c.args.self.now.reporter file c.args.line.now.number c.args.line.now.bytes rest state c.in-Some.step _ _ answer
     (has_step c.args.line.now.number c.args.line.now.bytes c.as_bytes.result.now c.read_line.result c.in-Some.step c.as_bytes.ensures c.in-Some.is
     c.read_line.ensures c.requires.short c.requires.numbered)
     (ends file state stands))

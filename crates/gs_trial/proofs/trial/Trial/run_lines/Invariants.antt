@@ -1,5 +1,6 @@
-use Rattle.std.proofs.Common.{◌≡◌, ◌-◌, ◌^◌, ℕ, List, [], Some}
+use Rattle.std.proofs.Common.{◌≡◌, ◌-◌, ◌^◌, ℕ, List, Some}
 use Rattle.gs_bytes.specs.Outside.{KeepsFlag}
+use Rattle.gs_schedule.specs.Lines.{TellsFlag}
 use Rattle.gs_run.specs.CaptureFile.{CaptureFile}
 use Rattle.gs_run.specs.Session.{State}
 use Rattle.gs_trial.specs.Standing.{IsReady, StandsFor}
@@ -16,11 +17,11 @@ invariant-lines g l =
     let out = g.K.Outside in
     record {
       ready : IsReady l.self;
-      empty : l.self.reporter.text ≡ [];
       led : (file : CaptureFile) (state : State) (bytes : List ℕ) → StandsFor l.fn.self file (tape.left l.fn.tape) state
           → schedule.left l.fn.schedule ≡ Some bytes
-          → LedOn l.fn.self.reporter.detail file bytes state (out.written l.fn.out) (out.written l.out) l.lines (schedule.left l.schedule) l.self
+          → LedOn l.fn.self.reporter file bytes state (out.written l.fn.out) (out.written l.out) l.lines (schedule.left l.schedule) l.self
           (tape.left l.tape);
+      tells : TellsFlag (schedule.met_end l.fn.schedule) (schedule.met_end l.schedule);
       not_met : KeepsFlag (tape.met_end l.fn.tape) (tape.met_end l.tape);
       tape_faults : tape.faults l.tape ≡ tape.faults l.fn.tape;
       schedule_faults : schedule.faults l.schedule ≡ schedule.faults l.fn.schedule;

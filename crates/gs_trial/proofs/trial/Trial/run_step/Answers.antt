@@ -1,62 +1,85 @@
 use Rattle.std.proofs.Common.{◌≡◌, ◌∙◌, true, false, refl, sym, ap}
 use Rattle.std.specs.Prelude.{is_some}
 use Rattle.std.proofs.lemmas.Result.{err_from_is_err_and}
-use Rattle.gs_report.specs.Reporting.{Reporting}
 use Rattle.gs_trial.specs.Stepping.{refusal_of}
-use Rattle.gs_trial.proofs.Keeping.{ready_kept}
-use Rattle.gs_trial.proofs.Results.{err_both, not_of_run, on_any, on_both}
-use Rattle.gs_trial.proofs.StepTexts.{ends_after, ends_at, ends_part, ends_told, ran_step}
+use Rattle.gs_trial.proofs.Keeping.{ready_still}
+use Rattle.gs_trial.proofs.Leading.{same_stands}
+use Rattle.gs_trial.proofs.Results.{err_both, not_of_run, on_any, on_more}
+use Rattle.gs_trial.proofs.StepTexts.{ends_after, ends_at, ends_behind_it, ends_part, ends_told, ends_unknown, ran_behind, ran_step}
+use Rattle.gs_trial.proofs.Texts.{front_part}
 use Rattle.gs_trial.proofs.trial.Trial.run_step.Goals.{then-is_told+in_ok-write_text-in-Err, else-is_told}
 use Rattle.gs_trial.proofs.trial.Trial.run_step.Goals as goal
 
+pub returns-in_err-write_before_step-clause-ends : goal.returns-in_err-write_before_step-clause-ends
+returns-in_err-write_before_step-clause-ends g c =
+    let p = err_from_is_err_and c.from_residual.result c.from_residual.ensures.1 in
+    let wrote = c.in_err-write_before_step.ensures in
+    let before = c.args.self.now.reporter in
+    rw (p.1, p.2) (λ file state stands.
+    ends_unknown before file c.args.number c.args.step.now state _ _ c.in_err-write_before_step.field-0.0 (not_of_run _ wrote.cause)
+    (front_part _ _ before.text wrote.err))
+
+pub step-requires-clause-ready : goal.step-requires-clause-ready
+step-requires-clause-ready g c = ready_still c.args.self.now c.write_before_step.new.self c.in_ok-write_before_step.ensures.kept c.requires.ready
+
 pub returns-in_err-write_text-in-Err-clause-ends : goal.returns-in_err-write_text-in-Err-clause-ends
 returns-in_err-write_text-in-Err-clause-ends g c =
-    let p = err_from_is_err_and c.from_residual.result c.from_residual.ensures.1 in
+    let p = err_from_is_err_and c.from_residual-in_err-write_text-in-Err.result c.from_residual-in_err-write_text-in-Err.ensures.1 in
+    let first = c.in_ok-write_before_step.ensures in
     let wrote = c.in_err-write_text-in-Err.ensures in
+    let here = c.write_before_step.new.self in
     rw (p.1, p.2) (λ file state stands.
-    ends_told c.step.new.self c.args.self.now.reporter file c.args.number c.args.step.now state _ _ _ c.in_err-write_text-in-Err.field-0.0 c.in-Err.error
-    c.requires.empty (c.in-Err.ensures.ran file state stands) (sym c.is_told.ensures ∙ c.if-is_told.true) (not_of_run _ wrote.cause) wrote.err)
+    ends_behind_it c.args.self.now.reporter here.reporter file c.args.number c.args.step.now state _ _ _ c.in_err-write_text-in-Err.field-0.0
+    first.kept.detail first.up_to
+    (ends_told c.step.new.self here.reporter file c.args.number c.args.step.now state _ _ _ c.in_err-write_text-in-Err.field-0.0 c.in-Err.error
+    (c.in-Err.ensures.ran file state (same_stands c.args.self.now here file _ state first.kept stands))
+    (sym c.is_told.ensures ∙ c.if-is_told.true) (not_of_run _ wrote.cause) wrote.err))
 
 pub returns-in-Ok-clause-ran : goal.returns-in-Ok-clause-ran
 returns-in-Ok-clause-ran g c =
-    let kept = c.write_text.ensures.kept in
-    on_both c.write_text.result _ _ _
-    (λ wrote empty. λ file state stands.
-    ran_step c.step.new.self c.write_text.new.self c.args.self.now.reporter file c.args.step.now state _ _ _ c.requires.empty
-    (c.in-Ok.ensures.ran file state stands)
-    kept.0 kept.1 (ap (λ v. v.items) kept.2) (ap (λ (r : Reporting). r.detail) empty) wrote)
-    c.write_text.ensures.ok c.write_text.ensures.empty
+    let first = c.in_ok-write_before_step.ensures in
+    let here = c.write_before_step.new.self in
+    on_more c.write_piece.result _ _
+    (λ wrote. λ file state stands.
+    ran_behind c.args.self.now.reporter here.reporter file c.args.step.now state _ _ _ _ c.write_piece.new.self first.kept.detail first.up_to
+    (ran_step c.step.new.self c.write_piece.new.self here.reporter file c.args.step.now state _ _ _
+    (c.in-Ok.ensures.ran file state (same_stands c.args.self.now here file _ state first.kept stands))
+    c.write_piece.ensures.kept wrote))
+    c.write_piece.ensures.up_to
 
 pub returns-in-Ok-clause-ends : goal.returns-in-Ok-clause-ends
 returns-in-Ok-clause-ends g c =
-    err_both c.write_text.result _ _ _
+    let first = c.in_ok-write_before_step.ensures in
+    let here = c.write_before_step.new.self in
+    err_both c.write_piece.result _ _ _
     (λ answer wrote cause. λ file state stands.
-    ends_part c.step.new.self c.args.self.now.reporter file c.args.number c.args.step.now state _ _ _ answer c.requires.empty
-    (c.in-Ok.ensures.ran file state stands)
-    (not_of_run answer cause) wrote)
-    c.write_text.ensures.err c.write_text.ensures.cause
+    ends_behind_it c.args.self.now.reporter here.reporter file c.args.number c.args.step.now state _ _ _ answer first.kept.detail first.up_to
+    (ends_part c.step.new.self here.reporter file c.args.number c.args.step.now state _ _ _ answer
+    (c.in-Ok.ensures.ran file state (same_stands c.args.self.now here file _ state first.kept stands))
+    (not_of_run answer cause) wrote))
+    c.write_piece.ensures.err c.write_piece.ensures.cause
 
 pub returns-after-is_told-clause-ends : goal.returns-after-is_told-clause-ends
 returns-after-is_told-clause-ends g c = λ file state stands.
     let e = c.in-Err.error in
-    let before = c.args.self.now.reporter in
-    let ran = c.in-Err.ensures.ran file state stands in
-    elim c.if-is_told.branch [
+    let first = c.in_ok-write_before_step.ensures in
+    let here = c.write_before_step.new.self in
+    let ran = c.in-Err.ensures.ran file state (same_stands c.args.self.now here file _ state first.kept stands) in
+    ends_behind_it c.args.self.now.reporter here.reporter file c.args.number c.args.step.now state _ _ _ _ first.kept.detail first.up_to
+    (elim c.if-is_told.branch [
       | then-is_told+in_ok-write_text-in-Err w ↦
           let told : is_some (refusal_of e) ≡ true = sym c.is_told.ensures ∙ w.if-is_told.true in
-          ends_at before.detail file c.args.number c.args.step.now state _ _ _ _ _ (ap g.K.Outside.written w.out-is) c.step_status.ensures
-          (ends_after c.step.new.self before file c.args.number c.args.step.now state _ _
-          (g.K.Outside.written w.write_text-then-is_told.new.out) e c.requires.empty ran
+          ends_at here.reporter file c.args.number c.args.step.now state _ _ _ _ _ (ap g.K.Outside.written w.out-is) c.step_status.ensures
+          (ends_after c.step.new.self here.reporter file c.args.number c.args.step.now state _ _
+          (g.K.Outside.written w.write_text.new.out) e ran
           (λ _. w.in_ok-write_text-in-Err.ensures.ok) (λ not. absurd (cc (told, not))))
       | else-is_told w ↦
           let not : is_some (refusal_of e) ≡ false = sym c.is_told.ensures ∙ w.if-is_told.false in
-          ends_at before.detail file c.args.number c.args.step.now state _ _ _ _ _ (ap g.K.Outside.written w.out-is) c.step_status.ensures
-          (ends_after c.step.new.self before file c.args.number c.args.step.now state _ _ (g.K.Outside.written c.args.out.now) e c.requires.empty ran
+          ends_at here.reporter file c.args.number c.args.step.now state _ _ _ _ _ (ap g.K.Outside.written w.out-is) c.step_status.ensures
+          (ends_after c.step.new.self here.reporter file c.args.number c.args.step.now state _ _ (g.K.Outside.written c.write_before_step.new.out) e ran
           (λ told. absurd (cc (told, not))) (λ _. refl))
-    ]
+    ])
 
 pub returns-in-Ok-clause-ready : goal.returns-in-Ok-clause-ready
 returns-in-Ok-clause-ready g c =
-    let kept = c.write_text.ensures.kept in
-    on_any c.write_text.result _
-    (ready_kept c.step.new.self c.write_text.new.self kept.0 (ap (λ v. v.items) kept.2) c.in-Ok.ensures.ready)
+    on_any c.write_piece.result _ (ready_still c.step.new.self c.write_piece.new.self c.write_piece.ensures.kept c.in-Ok.ensures.ready)

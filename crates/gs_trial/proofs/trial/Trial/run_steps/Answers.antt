@@ -9,9 +9,8 @@ steps-preserved g c =
     let ran = c.in_ok-run_step.ensures in
     record {
       ready = ran.ready;
-      empty = ran.empty;
       led = λ file state stands.
-          steps_next c.args.self.now.reporter.detail file c.args.steps.now c.steps.place _ state _ _ _ c.steps.self c.run_step.new.self _ _ c.steps-test.true
+          steps_next c.args.self.now.reporter file c.args.steps.now c.steps.place _ state _ _ _ c.steps.self c.run_step.new.self _ _ c.steps-test.true
           (inv.led file state stands) (λ t there. ran.ran file t there);
       tape_faults = ran.tape_faults ∙ inv.tape_faults;
       write_faults = ran.write_faults ∙ inv.write_faults;
@@ -21,5 +20,5 @@ pub returns-in_err-run_step-clause-ends : goal.returns-in_err-run_step-clause-en
 returns-in_err-run_step-clause-ends g c =
     let p = err_from_is_err_and c.from_residual.result c.from_residual.ensures.1 in
     rw (p.1, p.2) (λ file state stands.
-    steps_end c.args.self.now.reporter.detail file c.args.steps.now c.steps.place _ state _ _ _ c.steps.self _ c.in_err-run_step.field-0.0
+    steps_end c.args.self.now.reporter file c.args.steps.now c.steps.place _ state _ _ _ c.steps.self _ c.in_err-run_step.field-0.0
     c.steps-test.true (c.steps.invariant.led file state stands) (λ t there. c.in_err-run_step.ensures.ends file t there))

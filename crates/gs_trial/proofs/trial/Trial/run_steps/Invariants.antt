@@ -1,4 +1,4 @@
-use Rattle.std.proofs.Common.{◌≡◌, ◌+◌, drop, []}
+use Rattle.std.proofs.Common.{◌≡◌, ◌+◌, drop}
 use Rattle.gs_run.specs.CaptureFile.{CaptureFile}
 use Rattle.gs_run.specs.Run.{IsStep}
 use Rattle.gs_run.specs.Session.{State}
@@ -12,9 +12,8 @@ invariant-steps g l =
     let out = g.K.Outside in
     record {
       ready : IsReady l.self;
-      empty : l.self.reporter.text ≡ [];
       led : (file : CaptureFile) (state : State) → StandsFor l.fn.self file (tape.left l.fn.tape) state
-          → LedTo IsStep l.fn.self.reporter.detail file 1 l.steps state (out.written l.fn.out) (out.written l.out) (l.place + 1) (drop l.place l.steps) l.self
+          → LedTo IsStep l.fn.self.reporter file 1 l.steps state (out.written l.fn.out) (out.written l.out) (l.place + 1) (drop l.place l.steps) l.self
           (tape.left l.tape);
       tape_faults : tape.faults l.tape ≡ tape.faults l.fn.tape;
       write_faults : out.faults l.out ≡ out.faults l.fn.out;
