@@ -1,10 +1,11 @@
 #!/usr/bin/env python3
-"""Times the proved gsbench side by side with ISA-L and libenet, where these are there.
+"""Times the proved gsbench side by side with ISA-L and libenet, and the proved gstrial, where these are there.
 
-Run it at the top of the repository after `rt ci` or, in crates/gsbench, `rt run`. A round runs each
-workload of gsbench once and the peers once, one after another; of all rounds the best figure counts.
+Run it at the top of the repository after `rt ci` or, in crates/gsbench and crates/gstrial, `rt run`. A round
+runs each workload of gsbench once and the peers once, one after another; of all rounds the best figure counts.
 A workload is run with two counts, and the difference is taken, so that starting the process and making
-its bytes aren't counted. One table is printed, and nothing is written.
+its bytes aren't counted. A second table has whole runs of gstrial: the least seconds of all rounds, and the most
+memory that a run held. Nothing is written but in temporary folders.
 
 The peers are two small programs, isal_bench and enet_bench, that print lines such as
 `isal_encode_73_15: 2767.433 MB/s`. `--peers FOLDER`, or SPEED_PEERS in the environment, names the
@@ -12,7 +13,7 @@ folder in which they stand, or one with their sources isal_bench.c and enet_benc
 built in a temporary folder over libisal-dev and libenet-dev. What is missing is said, and left out.
 
 On a machine that does other work too, `--processor` counts the processor's seconds in place of the
-clock's: those of gsbench, and of isal_bench if the folder has its source, which is then built with the
+clock's: those of gsbench and gstrial, and of isal_bench if the folder has its source, which is then built with the
 process's own clock.
 """
 import argparse
@@ -27,7 +28,9 @@ import sys
 import tempfile
 import time
 
-PROGRAM = pathlib.Path(__file__).resolve().parent.parent / "crates/gsbench/out/gsbench"
+CRATES = pathlib.Path(__file__).resolve().parent.parent / "crates"
+PROGRAM = CRATES / "gsbench/out/gsbench"
+TRIAL = CRATES / "gstrial/out/gstrial"
 LEN = 1376  # bytes of a shard
 MOST = (1 << 20) - 1  # turns: in some workloads a turn is a frame, and one turn more is made than these
 LIBRARIES = {"isal_bench": ["-lisal"], "enet_bench": ["-lenet", "-lpthread"]}
@@ -50,7 +53,8 @@ FRAME = [1392, 20, 41_000]
 WORKLOADS.append(("split", ["split", *FRAME], FRAME[2], None))
 WORKLOADS.append(("receive", ["receive", *FRAME, 0], FRAME[2], None))
 WORKLOADS.append(("receive, 1 of 20 lost", ["receive", *FRAME, 20], FRAME[2], None))
-WORKLOADS.append(("take", ["take", FRAME[2]], FRAME[2], None))
+WORKLOADS.append(("take", ["take", *FRAME, 0], FRAME[2], None))
+WORKLOADS.append(("take, 1 of 20 lost", ["take", *FRAME, 20], FRAME[2], None))
 # a capture file of generated ticks, read from memory, where its ticks are dropped, and where eight hold each
 TICKS = 60
 WORKLOADS.append((f"read {TICKS} ticks", ["tape", 7, TICKS], None, None))
@@ -62,6 +66,8 @@ for n in [1, 4]:
 for n in [1, 4]:
     WORKLOADS.append((f"views of {n}", ["views", n], n, None))
 COUNTED |= {"choose", "turns of 1", "turns of 4", "views of 1", "views of 4"}
+# datagrams that a schedule of gstrial delivers line by line, each of a frame of its own
+SINGLES = 60_000
 
 
 def clock():
@@ -120,16 +126,11 @@ def peer_figures(program):
     return {name: float(n) * UNITS[unit] for name, n, unit in re.findall(r"(\w+): ([\d.]+) (\S+)", text)}
 
 
-def main():
-    words = argparse.ArgumentParser(description=__doc__.splitlines()[0])
-    words.add_argument("--peers", default=os.environ.get("SPEED_PEERS"), help="folder of the peers or their sources")
-    words.add_argument("--rounds", type=int, default=10)
-    words.add_argument("--seconds", type=float, default=0.1, help="of each run of a workload")
-    words.add_argument("--processor", action="store_true", help="count the processor's seconds, not the clock's")
-    args = words.parse_args()
+def time_workloads(args):
     now = processor if args.processor else clock
     if not PROGRAM.exists():
-        sys.exit(f"{PROGRAM} is missing: run `rt run` in crates/gsbench first")
+        print(f"{PROGRAM} is missing, so left out: run `rt run` in crates/gsbench")
+        return
     best, peers = {}, {}
     with tempfile.TemporaryDirectory() as built:
         programs = peers_in(pathlib.Path(args.peers), pathlib.Path(built), args.processor) if args.peers else []
@@ -154,6 +155,86 @@ def main():
         print(f"{name:<24}{best[name] / 1e6:>10.{digits}f}{rest}")
     print("messages, choices, turns and views: millions a second, of all threads together")
     print("the peer's messages go through the system's sockets, those of gsbench stay in memory")
+
+
+def generated_schedule(ticks):
+    """The lines that stand for what `make` does over its generated ticks."""
+    lines = ["session 1392 20 2"] * 2
+    for tick in range(1, ticks + 1):
+        key = "keydown" if tick % 2 else "keyup"
+        lines += ["cap", "send 1", "send 2", f"{key} 1 65 0", "pump 1 50", "pump 2 50"]
+    return lines + ["close 1", "pump 1 0", "close 2", "pump 2 0"]
+
+
+def single_capture(ticks):
+    """A capture file of ticks with an IDR unit of 14 bytes each, which goes out as one datagram."""
+    tick = b"T" + bytes(6) + (14).to_bytes(4, "little") + b"fourteen bytes"
+    return b"GSTAPE01" + bytes([0, 0, 5, 0]) + ticks * tick + b"E"
+
+
+def single_schedule(ticks):
+    """Each of those ticks is sent, and its datagram delivered."""
+    lines = (line for tick in range(1, ticks + 1) for line in ("cap", "send 1", f"video 1 {tick}"))
+    return ["session 1024 0 0", *lines]
+
+
+def scripted(folder, name, lines):
+    """The words that run these lines over the capture file of that name."""
+    schedule = folder / f"{name} schedule"
+    schedule.write_text("".join(line + "\n" for line in lines))
+    return ["script", "brief", folder / name, schedule]
+
+
+def trial_runs(folder):
+    """The rows of gstrial and their words, with the files that they want in a folder."""
+    yield "make 7 600", ["make", 7, 600]
+    for ticks in [600, 2_000]:
+        with (folder / f"{ticks}").open("wb") as tape:
+            subprocess.run([TRIAL, "tape", "7", f"{ticks}"], stdout=tape, check=True)
+        yield f"script, {ticks} generated ticks", scripted(folder, f"{ticks}", generated_schedule(ticks))
+    (folder / "singles").write_bytes(single_capture(SINGLES))
+    yield f"script, {SINGLES} lines video 1 K", scripted(folder, "singles", single_schedule(SINGLES))
+
+
+def whole_run(words, by_processor):
+    """The seconds that a run of gstrial takes, and the most memory that it holds, in MB."""
+    begin = clock()
+    process = subprocess.Popen([TRIAL, *map(str, words)], stdout=subprocess.DEVNULL)
+    _, status, used = os.wait4(process.pid, 0)
+    took = clock() - begin
+    process.returncode = os.waitstatus_to_exitcode(status)
+    if process.returncode != 0:
+        sys.exit(f"gstrial {' '.join(map(str, words))}: status {process.returncode}")
+    return used.ru_utime + used.ru_stime if by_processor else took, used.ru_maxrss * 1024 / 1e6
+
+
+def time_trial(args):
+    if not TRIAL.exists():
+        print(f"{TRIAL} is missing, so left out: run `rt run` in crates/gstrial")
+        return
+    best = {}
+    with tempfile.TemporaryDirectory() as name:
+        runs = list(trial_runs(pathlib.Path(name)))
+        for _ in range(args.rounds):
+            for row, words in runs:
+                took, held = whole_run(words, args.processor)
+                least, most = best.get(row, (took, held))
+                best[row] = min(least, took), max(most, held)
+    unit = "processor seconds" if args.processor else "seconds"
+    print(f"gstrial, a whole run: the least {unit} of {args.rounds} rounds, and the most memory in MB")
+    for row, (took, held) in best.items():
+        print(f"{row:<36}{took:>10.3f}{held:>10.1f}")
+
+
+def main():
+    words = argparse.ArgumentParser(description=__doc__.splitlines()[0])
+    words.add_argument("--peers", default=os.environ.get("SPEED_PEERS"), help="folder of the peers or their sources")
+    words.add_argument("--rounds", type=int, default=10)
+    words.add_argument("--seconds", type=float, default=0.1, help="of each run of a workload")
+    words.add_argument("--processor", action="store_true", help="count the processor's seconds, not the clock's")
+    args = words.parse_args()
+    time_workloads(args)
+    time_trial(args)
 
 
 if __name__ == "__main__":

@@ -52,9 +52,12 @@ messages_limits = from_to 1 256 ∷ any_count ∷ []
 abbrev pub frame_limits : List Limits → List Limits
 frame_limits rest = from_to least_packet most_packet ∷ from_to 0 most_percentage ∷ from_to 1 most_unit ∷ rest
 
--- a turn is a frame's number
+-- each so many-th datagram is lost; a turn is a frame's number
 abbrev pub receive_limits : List Limits
 receive_limits = frame_limits (any_number ∷ from_to 1 most_frame ∷ [])
+
+abbrev pub take_limits : List Limits
+take_limits = receive_limits
 
 abbrev pub split_limits : List Limits
 split_limits = frame_limits (any_count ∷ [])
@@ -74,10 +77,6 @@ turns_limits = from_to 1 16 ∷ any_count ∷ []
 -- viewers that read one capture
 abbrev pub views_limits : List Limits
 views_limits = from_to 1 16 ∷ any_count ∷ []
-
--- the bytes of a frame; a turn is a frame's number
-abbrev pub take_limits : List Limits
-take_limits = from_to 1 most_unit ∷ from_to 1 most_frame ∷ []
 
 -- the first word, no bytes where there is none
 abbrev pub first_word : List (String Global) → List ℕ

@@ -1,5 +1,5 @@
 // The video code: parity shards written, and absent shards restored.
-ghost use Rattle.std.specs.Prelude.{◌≡◌, ◌+◌, ◌-◌, ◌*◌, ◌<◌, ◌++◌, length, IfOk, MatchResult, Some};
+ghost use Rattle.std.specs.Prelude.{◌≡◌, ◌-◌, ◌*◌, ◌<◌, ◌++◌, length, IfOk, MatchResult, Some};
 ghost use Rattle.gs_rs.specs.Codeword.{IsBlock};
 ghost use Rattle.gs_rs.specs.Shape.{shard_count, IsCode};
 ghost use Rattle.gsbench.specs.Words.{number_word};

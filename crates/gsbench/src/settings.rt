@@ -1,7 +1,6 @@
 // The settings of a stream, as the words of a command name them.
 ghost use Rattle.std.specs.Prelude.{◌≡◌, MatchResult, Some};
 ghost use Rattle.gs_rtp.specs.Limits.{least_packet, most_packet, most_percentage};
-ghost use Rattle.gsbench.specs.declared.report.Stop.TheVariants.{Usage};
 ghost use Rattle.gsbench.specs.Words.{number_word};
 ghost use Rattle.gsbench.specs.Workloads.{IsStopAtStream};
 

@@ -1,37 +1,38 @@
 // Frames taken by a client's core, which gives their units.
-ghost use Rattle.std.specs.Prelude.{◌<◌, ◌≤◌, ◌∷◌, ℕ, List, length, IfErr, IfOk};
-ghost use Rattle.gs_bytes.specs.Limits.{most_unit};
+ghost use Rattle.std.specs.Prelude.{◌<◌, ◌≤◌, ◌∷◌, ℕ, List, IfOk};
 ghost use Rattle.gs_frames.specs.Client.{ClientSettings, Arrival, Datagram};
 ghost use Rattle.gs_client_core.specs.Standing.{StandsFor};
-ghost use Rattle.gsbench.specs.Report.{IsNoUsage};
 ghost use Rattle.gsbench.specs.Workloads.{IsJudged, take_limits};
 
 use crate::frames::KIND_IDR;
 use crate::receive::{datagrams_of, set_frame};
 use crate::report::{Counted, Report, Stop};
 use crate::sample::{SEED, checksum, made};
+use crate::settings::settings_of;
 use crate::words::{expect_end, number_at};
 use gs_bytes::MOST_UNIT;
 use gs_client_core::Client;
-use gs_rtp::{FRAME_GREATEST, Settings};
+use gs_rtp::FRAME_GREATEST;
 use gs_split::Splitter;
 use std::alloc::Global;
 
-// The packet size, and the percentage of parity.
-const PACKET: u16 = 1_392;
-
-const PERCENTAGE: u8 = 20;
-
-/// `take LEN COUNT`: IDR frames whose unit has LEN bytes, of which no datagram is lost.
+/// `take Z P LEN EVERY COUNT`: IDR frames whose unit has LEN bytes, at packet size Z and percentage P. Each EVERY-th
+/// datagram is lost, none at 0.
 pub fn run(alloc: Global, words: &[String]) -> Result<Report, Stop>
     ensures usage { IsJudged take_limits words.now result }
     ensures amount { IfOk result (λ report. 0 < report.amount) }
 {
-    let len = number_at(words, 1, 1, MOST_UNIT)?;
-    let count = number_at(words, 2, 1, FRAME_GREATEST)?;
-    expect_end(words, 3)?;
+    let settings = settings_of(words)?;
+    let len = number_at(words, 3, 1, MOST_UNIT)?;
+    let every = number_at(words, 4, 0, u32::MAX)?;
+    let count = number_at(words, 5, 1, FRAME_GREATEST)?;
+    expect_end(words, 6)?;
     let unit = made(alloc, len as usize, SEED)?;
-    let sum = split_and_take(alloc, &unit, count)?;
+    let mut splitter = Splitter::new(alloc, &settings)?;
+    let number = splitter.load(1, KIND_IDR, 0, &unit);
+    let mut datagrams = datagrams_of(alloc, &mut splitter, number, &unit)?;
+    let mut client = Client::new(alloc, &settings, 1)?;
+    let sum = take_often(&mut client, &mut datagrams, every, count);
     Ok(Report {
         checksum: sum,
         counted: Counted::Bytes,
@@ -39,55 +40,31 @@ pub fn run(alloc: Global, words: &[String]) -> Result<Report, Stop>
     })
 }
 
-// Splits a unit, and takes the datagrams under so many numbers. Answers the checksum of the unit that was given last.
-fn split_and_take(alloc: Global, unit: &[u8], count: u32) -> Result<u32, Stop>
-    requires unit { length unit.now ≤ most_unit }
-    requires count { count ≤ 1048576 }
-    ensures { IfErr result (λ stop. IsNoUsage stop) }
-{
-    let settings = Settings::make(PACKET, PERCENTAGE, 0, 60, 5, 0, 1).ok_or(Stop::Untold)?;
-    let mut splitter = Splitter::new(alloc, &settings)?;
-    let number = splitter.load(1, KIND_IDR, 0, unit);
-    let mut datagrams = datagrams_of(alloc, &mut splitter, number, unit)?;
-    let mut client = Client::new(alloc, &settings, 1)?;
-    take_often(&mut client, &mut datagrams, count)
-}
-
-// Takes the frame under so many numbers.
-fn take_often(client: &mut Client, datagrams: &mut [Vec<u8>], count: u32) -> Result<u32, Stop>
+// Sends the frame under so many numbers. Answers the checksum of the unit that the last one gives, of no bytes where it
+// gives none.
+fn take_often(client: &mut Client, datagrams: &mut [Vec<u8>], every: u32, count: u32) -> u32
     requires { count ≤ 1048576 }
-    ensures { IfErr result (λ stop. IsNoUsage stop) }
 {
-    let mut sum = 0;
+    let mut sent = 0_u32;
+    let mut sum = checksum(&[]);
     for frame in 1..count + 1 {
-        sum = take_frame(client, datagrams, frame, frame == count)?;
+        for datagram in datagrams.iter_mut() {
+            set_frame(datagram, frame);
+            sent = sent.wrapping_add(1);
+            if every == 0 || sent % every != 0 {
+                sum = take(client, datagram, frame == count).unwrap_or(sum);
+            }
+        }
     }
-    Ok(sum)
+    sum
 }
 
-// Takes the datagrams of a frame, with one of which its unit is to be given. Answers its checksum if that is wanted.
-fn take_frame(
-    client: &mut Client,
-    datagrams: &mut [Vec<u8>],
-    frame: u32,
-    wanted: bool,
-) -> Result<u32, Stop>
-    ensures { IfErr result (λ stop. IsNoUsage stop) }
-{
-    let mut given = None;
-    for datagram in datagrams.iter_mut() {
-        set_frame(datagram, frame);
-        given = take(client, datagram, wanted).or(given);
-    }
-    given.ok_or(Stop::Untold)
-}
-
-// Takes a datagram, and answers the checksum of the unit that is given with it, 0 if it isn't wanted.
+// Takes a datagram, and answers the checksum of the unit that is given with it, where that is wanted.
 fn take(client: &mut Client, datagram: &[u8], wanted: bool) -> Option<u32>
     ensures { (c : ClientSettings) (came : List Arrival) (sound : List (List ℕ)) → StandsFor client.old c came sound
         → StandsFor client.new c (Datagram datagram.now ∷ came) sound }
 {
     let [unit, ..] = client.take(datagram).units;
     let bytes = unit?.bytes;
-    Some(if wanted { checksum(bytes) } else { 0 })
+    if wanted { Some(checksum(bytes)) } else { None }
 }

@@ -1,0 +1,2 @@
+mod joined;
+mod sending;
