@@ -1,5 +1,6 @@
 -- A side that gave and heard few messages stays so with each datagram that it reads, so each datagram is near.
-use Rattle.std.proofs.Common.{◌≡◌, ◌≤◌, ◌+◌, ◌-◌, ◌%◌, ℕ, Bool, true, false, not, List, [], ◌∷◌, ◌++◌, length, map, Option, Some, None, refl, sym, ap, subst, ◌∙◌, arith}
+use Rattle.std.proofs.Common.{◌≡◌, ◌≤◌, ◌+◌, ◌-◌, ◌%◌, ℕ, Bool, true, false, not, List, [], ◌∷◌, ◌++◌, length, map, Option, Some, None, refl, sym, ap, subst}
+use Rattle.std.proofs.Common.{◌∙◌, arith}
 use Rattle.std.specs.Prelude.{◌==◌, ◌&&◌, nat_lt, is_some}
 use Rattle.std.specs.List.{filter, find}
 use Rattle.std.proofs.lemmas.Bool.{and_parts, eqb-true, eqb-false}
@@ -9,8 +10,10 @@ use Rattle.gs_enet.specs.declared.event.PeerEvent.TheVariants as event
 use Rattle.gs_enet.specs.declared.state.PeerState.{PeerState}
 use Rattle.gs_enet.specs.declared.state.PeerState.TheVariants as state
 use Rattle.gs_enet.specs.declared.answer.Answer.{Answer}
-use Rattle.gs_enet.specs.Record.{PeerRecord, Unacknowledged, Content, Connect, VerifyConnect, Disconnect, Message, Given, channels, control, given_on, heard, heard_count, given_count, messages_on, happened, owing, shut}
-use Rattle.gs_enet.specs.Receive.{expected, distance, is_next, is_behind, is_connect, takes_messages, taken_if, message_if, verified, verify_if, disconnect_if, connected, leave_if, acknowledged, is_named, acknowledged_if, answer_to, received, all_received}
+use Rattle.gs_enet.specs.Record.{PeerRecord, Unacknowledged, Content, Connect, VerifyConnect, Disconnect, Message, Given, channels, control, given_on, heard}
+use Rattle.gs_enet.specs.Record.{heard_count, given_count, messages_on, happened, owing, shut}
+use Rattle.gs_enet.specs.Receive.{expected, distance, is_next, is_behind, is_connect, takes_messages, taken_if, message_if, verified, verify_if, disconnect_if}
+use Rattle.gs_enet.specs.Receive.{connected, leave_if, acknowledged, is_named, acknowledged_if, answer_to, received, all_received}
 use Rattle.gs_enet.specs.Write.{Item, Answers, Orders, item_command, order_command}
 use Rattle.gs_enet.specs.World.{IsNearOrder, IsNearItem, AreNear}
 use Rattle.gs_enet.proofs.Lists.{Each}

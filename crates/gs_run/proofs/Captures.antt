@@ -6,7 +6,8 @@ use Rattle.std.proofs.lemmas.List.Elements.{All-nil, All-cons, All-push, All-map
 use Rattle.gs_tape.specs.Tick.{Delta}
 use Rattle.gs_tape.specs.Limits.{HoldsBytes}
 use Rattle.gs_tape.specs.Reading.{Fault, Head, head_at, duration_of_head}
-use Rattle.gs_tape.specs.Generated.{Drawn, draw, next_state, pattern, unit_of, unit_from, with_delta, deltas, with_sound, three_sounds, sounds, tick, ticks_from}
+use Rattle.gs_tape.specs.Generated.{Drawn, draw, next_state, pattern, unit_of, unit_from, with_delta, deltas, with_sound, three_sounds, sounds}
+use Rattle.gs_tape.specs.Generated.{tick, ticks_from}
 use Rattle.gs_tape.proofs.Results.{Gives}
 use Rattle.gs_tape.proofs.Ticks.{IsHead, head_gives, AreBytes-from_All, ticks_keep_limits, ticks_hold_bytes, audio_length_keeps}
 use Rattle.gs_tape.proofs.GeneratedWithin.{generated_is_writable}

@@ -1,5 +1,6 @@
 -- Each deed of a session keeps its part.
-use Rattle.std.proofs.Common.{◌≡◌, ◌<◌, ◌+◌, ◌-◌, ℕ, Bool, true, false, not, cond, ◌&&◌, List, [], ◌∷◌, ◌++◌, length, map, Option, Some, None, refl, sym, ap, subst, ◌∙◌, arith, inl, inr}
+use Rattle.std.proofs.Common.{◌≡◌, ◌<◌, ◌+◌, ◌-◌, ℕ, Bool, true, false, not, cond, ◌&&◌, List, [], ◌∷◌, ◌++◌, length, map, Option, Some, None, refl, sym, ap}
+use Rattle.std.proofs.Common.{subst, ◌∙◌, arith, inl, inr}
 use Rattle.std.specs.Prelude.{nat_lt, slice_get}
 use Rattle.std.specs.List.{All, Contains}
 use Rattle.std.proofs.lemmas.Bool.{and_parts, ltb-true, cases_eq}
@@ -179,7 +180,8 @@ sends ticks part captured t k newer there =
       sent = subst (λ (stream : List (List ℕ)). All (IsOfStream stream) part.came) (sym grown.1)
           (All-weaker (IsOfStream before) (IsOfStream (before ++ grown.0)) (of_longer before grown.0) part.came k.sent);
       sound_sent = subst (λ (stream : List (List ℕ)). All (Contains stream) part.sound) (sym louder.1)
-          (All-weaker (Contains sounds) (Contains (sounds ++ louder.0)) (λ bytes among. Contains-append_left sounds louder.0 bytes among) part.sound k.sound_sent);
+          (All-weaker (Contains sounds) (Contains (sounds ++ louder.0))
+          (λ bytes among. Contains-append_left sounds louder.0 bytes among) part.sound k.sound_sent);
       both = k.both;
       calm_client = k.calm_client;
       calm_host = k.calm_host;

@@ -1,5 +1,6 @@
 -- What holds of every run.
-use Rattle.std.proofs.Common.{◌≡◌, ◌⊎◌, ◌+◌, ◌&&◌, ℕ, zero, suc, Bool, true, false, cond, List, [], ◌∷◌, ◌++◌, length, take, Option, Some, None, refl, sym, ap, subst, ◌∙◌, inl, inr, arith}
+use Rattle.std.proofs.Common.{◌≡◌, ◌⊎◌, ◌+◌, ◌&&◌, ℕ, zero, suc, Bool, true, false, cond, List, [], ◌∷◌, ◌++◌, length, take, Option, Some, None, refl, sym, ap}
+use Rattle.std.proofs.Common.{subst, ◌∙◌, inl, inr, arith}
 use Rattle.std.specs.Prelude.{◌==◌, reverse}
 use Rattle.std.specs.List.{AllByRecursion, Contains, filter, flat_map}
 use Rattle.std.specs.Option.{IfSome}
@@ -27,7 +28,9 @@ use Rattle.gs_run.specs.Generated.{generated_steps}
 use Rattle.gs_run.specs.RunLaws.{IsCapture, IsPairedPart, HandsCaptured, HandsReferences, PlaysCaptured, TellsInOrder}
 use Rattle.gs_run.specs.ReportLaws.{session_of, lines_of, over_parts, is_hand, is_ask, is_play, is_input}
 use Rattle.gs_run.specs.UserEvents.{GiveEvents, IsProper, TellUsers, RunsTellUsers}
-use Rattle.gs_run.specs.WholeRun.{ending, IsDoneBy, PartHolds, EachPartHolds, HaveOnePart, is_entry, is_closed, closed_report, given_by, ReportsAre, LinesHold, TellsAll, TellAllOnceClosed, RunsTellAllOnceClosed, StateHolds, RunHolds, RunsHaveDeeds, RunsOfStepsHaveDeeds, IsCaptureUnlessFaulty, RunsHold, RunsOfStepsHold, RunsOverBytesHold, GeneratedRunsHold}
+use Rattle.gs_run.specs.WholeRun.{ending, IsDoneBy, PartHolds, EachPartHolds, HaveOnePart, is_entry, is_closed, closed_report, given_by, ReportsAre, LinesHold}
+use Rattle.gs_run.specs.WholeRun.{TellsAll, TellAllOnceClosed, RunsTellAllOnceClosed, StateHolds, RunHolds, RunsHaveDeeds, RunsOfStepsHaveDeeds}
+use Rattle.gs_run.specs.WholeRun.{IsCaptureUnlessFaulty, RunsHold, RunsOfStepsHold, RunsOverBytesHold, GeneratedRunsHold}
 use Rattle.gs_run.proofs.Runs.{runs_are_paired, runs_hand_captured_units, runs_hand_references, runs_play_captured_units, runs_tell_in_order}
 use Rattle.gs_run.proofs.PartLines.{Tells}
 use Rattle.gs_run.proofs.StreamLines.{tells_hands, tells_asks, tells_plays}

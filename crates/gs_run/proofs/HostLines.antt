@@ -38,7 +38,8 @@ use Rattle.gs_run.specs.Scene.{Scene}
 use Rattle.gs_run.specs.Deed.{SessionDeed, Turn, TakeVideo, TakeAudio, TakeUp, TakeDown, Give, Close, Mark}
 use Rattle.gs_run.specs.Deed as deed
 use Rattle.gs_run.specs.Connection.{both_written_out, with_owed, settled}
-use Rattle.gs_run.specs.Hearing.{client_reports, client_hears, entry_output, entered, entered_unless_ended, acts_on, host_heard, all_heard, up_taken, down_taken, timed}
+use Rattle.gs_run.specs.Hearing.{client_reports, client_hears, entry_output, entered, entered_unless_ended, acts_on, host_heard, all_heard, up_taken}
+use Rattle.gs_run.specs.Hearing.{down_taken, timed}
 use Rattle.gs_run.specs.Opening.{new_part, opened_part}
 use Rattle.gs_run.specs.Streaming.{turn_entry, newest_sent, turned, with_video_if, video_taken, with_audio_if, audio_taken, reset}
 use Rattle.gs_run.specs.Giving.{given, closed}

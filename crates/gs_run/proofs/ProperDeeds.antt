@@ -1,5 +1,6 @@
 -- The deeds of a step whose event is proper are proper; so are the steps of lines, and those that are generated.
-use Rattle.std.proofs.Common.{◌≡◌, ◌⊎◌, ◌+◌, ◌%◌, ℕ, Bool, true, false, cond, List, [], ◌∷◌, ◌++◌, map, Option, Some, None, Result, Ok, Err, pos, sym, subst, inl, inr, arith}
+use Rattle.std.proofs.Common.{◌≡◌, ◌⊎◌, ◌+◌, ◌%◌, ℕ, Bool, true, false, cond, List, [], ◌∷◌, ◌++◌, map, Option, Some, None, Result, Ok, Err, pos, sym, subst}
+use Rattle.std.proofs.Common.{inl, inr, arith}
 use Rattle.std.specs.Prelude.{◌==◌, unwrap_or}
 use Rattle.std.specs.List.{AllByRecursion, flat_map, range_with_len}
 use Rattle.std.specs.Option.{IfSome, option_map}
@@ -41,7 +42,8 @@ or_mark None is = λ session. tt
 or_mark (Some d) is = is
 
 control_is : (pumping : Pumping) (up down : Option ℕ)
-    → IfSome (cond pumping.down_is_next (or_else (option_map TakeDown down) (option_map TakeUp up)) (or_else (option_map TakeUp up) (option_map TakeDown down))) IsDelivery
+    → IfSome (cond pumping.down_is_next (or_else (option_map TakeDown down) (option_map TakeUp up))
+    (or_else (option_map TakeUp up) (option_map TakeDown down))) IsDelivery
 control_is pumping up down = by pumping.down_is_next where
   ups : IfSome (option_map TakeUp up) IsDelivery
   ups = mapped TakeUp (λ k session. tt) up
@@ -49,7 +51,8 @@ control_is pumping up down = by pumping.down_is_next where
   downs : IfSome (option_map TakeDown down) IsDelivery
   downs = mapped TakeDown (λ k session. tt) down
 
-  by : (b : Bool) → IfSome (cond b (or_else (option_map TakeDown down) (option_map TakeUp up)) (or_else (option_map TakeUp up) (option_map TakeDown down))) IsDelivery
+  by : (b : Bool)
+      → IfSome (cond b (or_else (option_map TakeDown down) (option_map TakeUp up)) (or_else (option_map TakeUp up) (option_map TakeDown down))) IsDelivery
   by true = one_of (option_map TakeDown down) (option_map TakeUp up) downs ups
   by false = one_of (option_map TakeUp up) (option_map TakeDown down) ups downs
 

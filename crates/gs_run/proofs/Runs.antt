@@ -1,5 +1,6 @@
 -- Every deed of a run keeps every part of every session, and what follows from it.
-use Rattle.std.proofs.Common.{◌≡◌, ◌+◌, ◌-◌, ℕ, zero, suc, Bool, true, false, not, ◌&&◌, List, [], ◌∷◌, ◌++◌, length, Option, Some, None, refl, sym, ap, subst, ◌∙◌, arith}
+use Rattle.std.proofs.Common.{◌≡◌, ◌+◌, ◌-◌, ℕ, zero, suc, Bool, true, false, not, ◌&&◌, List, [], ◌∷◌, ◌++◌, length, Option, Some, None, refl, sym, ap, subst}
+use Rattle.std.proofs.Common.{◌∙◌, arith}
 use Rattle.std.specs.Prelude.{slice_get, nat_lt}
 use Rattle.std.specs.List.{AllByRecursion}
 use Rattle.std.specs.Option.{IfSome}
@@ -30,7 +31,8 @@ use Rattle.gs_run.specs.Pump.{marked}
 use Rattle.gs_run.specs.Refusal.{Refusal, is_client_open, has_made_most, is_allowed, refused_unless, refusal_in, refusal}
 use Rattle.gs_run.specs.Done.{done_in, settled_in, after_in, all_timed, after, unless_refused, ran_on, ran}
 use Rattle.gs_run.specs.Totals.{parts_of}
-use Rattle.gs_run.specs.RunLaws.{IsCapture, OfEachPart, IsPairedPart, RunsArePaired, HandsCaptured, RunsHandCapturedUnits, HandsReferences, RunsHandReferences, PlaysCaptured, RunsPlayCapturedUnits, TellsInOrder, RunsTellInOrder}
+use Rattle.gs_run.specs.RunLaws.{IsCapture, OfEachPart, IsPairedPart, RunsArePaired, HandsCaptured, RunsHandCapturedUnits, HandsReferences, RunsHandReferences}
+use Rattle.gs_run.specs.RunLaws.{PlaysCaptured, RunsPlayCapturedUnits, TellsInOrder, RunsTellInOrder}
 use Rattle.gs_run.proofs.TwoSides.{in_order_from}
 use Rattle.gs_run.proofs.Heard.{IsFitting}
 use Rattle.gs_run.proofs.Asking.{IsOther, frames_few, is_prefix}

@@ -1,5 +1,6 @@
 -- What a side does at one moment leaves no more deliveries than were left before.
-use Rattle.std.proofs.Common.{◌≡◌, ◌≤◌, ◌+◌, ◌-◌, ◌*◌, ℕ, zero, suc, Bool, true, false, not, cond, List, [], ◌∷◌, ◌++◌, length, map, drop, Option, Some, None, refl, ap, ◌∙◌, arith}
+use Rattle.std.proofs.Common.{◌≡◌, ◌≤◌, ◌+◌, ◌-◌, ◌*◌, ℕ, zero, suc, Bool, true, false, not, cond, List, [], ◌∷◌, ◌++◌, length, map, drop, Option, Some, None}
+use Rattle.std.proofs.Common.{refl, ap, ◌∙◌, arith}
 use Rattle.std.specs.Prelude.{◌==◌, ◌&&◌, ◌%◌, nat_lt, nat_le, is_some, slice_get}
 use Rattle.std.specs.List.{filter, find}
 use Rattle.std.proofs.lemmas.List.{length-append, length-drop}
@@ -7,10 +8,13 @@ use Rattle.gs_enet_wire.specs.Grammar.{command_spelling}
 use Rattle.gs_enet.specs.declared.answer.Answer.{Answer}
 use Rattle.gs_enet.specs.declared.state.PeerState.{PeerState}
 use Rattle.gs_enet.specs.declared.state.PeerState.TheVariants as state
-use Rattle.gs_enet.specs.Record.{PeerRecord, Content, Connect, VerifyConnect, Disconnect, Message, Unacknowledged, channels, control, datagram_room, is_shut, at_moment, fresh}
-use Rattle.gs_enet.specs.Receive.{takes_messages, expected, message_if, is_next, is_behind, taken_if, is_connect, verified, verify_if, disconnect_if, leave_if, connected, acknowledged, is_named, acknowledged_if, answer_to, received, all_received}
+use Rattle.gs_enet.specs.Record.{PeerRecord, Content, Connect, VerifyConnect, Disconnect, Message, Unacknowledged, channels, control, datagram_room, is_shut}
+use Rattle.gs_enet.specs.Record.{at_moment, fresh}
+use Rattle.gs_enet.specs.Receive.{takes_messages, expected, message_if, is_next, is_behind, taken_if, is_connect, verified, verify_if, disconnect_if, leave_if}
+use Rattle.gs_enet.specs.Receive.{connected, acknowledged, is_named, acknowledged_if, answer_to, received, all_received}
 use Rattle.gs_enet.specs.Steps.{comes_before, placed, next_number, with_message}
-use Rattle.gs_enet.specs.Write.{Item, Answers, Orders, item_command, order_command, wire_number, is_due, due_if, fitting, going_out, header_room, next_items, written_once, first_written, wrote_next}
+use Rattle.gs_enet.specs.Write.{Item, Answers, Orders, item_command, order_command, wire_number, is_due, due_if, fitting, going_out, header_room, next_items}
+use Rattle.gs_enet.specs.Write.{written_once, first_written, wrote_next}
 use Rattle.gs_enet.specs.World.{Side, Written, Write, sent_if, one_written, acted, came}
 use Rattle.gs_enet.proofs.Due.{due_after}
 use Rattle.gs_enet.specs.Sides.{writing_within, written_out}
@@ -315,7 +319,8 @@ wrote_leaves now n s =
     omega (arith, answers, due, messages, later, new)
 
 within_leaves : (m now n : ℕ) (s : Side)
-    → deliveries_by (writing_within m now s).peer + all_deliveries (drop n (writing_within m now s).wrote) ≤ deliveries_by s.peer + all_deliveries (drop n s.wrote)
+    → deliveries_by (writing_within m now s).peer + all_deliveries (drop n (writing_within m now s).wrote)
+    ≤ deliveries_by s.peer + all_deliveries (drop n s.wrote)
 within_leaves zero now n s = omega arith
 within_leaves (suc m) now n s =
     let one = wrote_leaves now n s in

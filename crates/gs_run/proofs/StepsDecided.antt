@@ -1,5 +1,6 @@
 -- Whether a line of a schedule has a step is decided.
-use Rattle.std.proofs.Common.{◌≡◌, ◌<◌, ◌≤◌, ◌-◌, ◌^◌, ◌⊎◌, inl, inr, ℕ, zero, suc, ℤ, FitsSigned, w16, List, [], ◌∷◌, length, map, Option, Some, None, refl, subst, arith}
+use Rattle.std.proofs.Common.{◌≡◌, ◌<◌, ◌≤◌, ◌-◌, ◌^◌, ◌⊎◌, inl, inr, ℕ, zero, suc, ℤ, FitsSigned, w16, List, [], ◌∷◌, length, map, Option, Some, None, refl}
+use Rattle.std.proofs.Common.{subst, arith}
 use Rattle.std.specs.Prelude.{pos, negsuc, codes}
 use Rattle.std.specs.List.{AllByRecursion}
 use Rattle.std.specs.Fmt.{decimal}
@@ -330,20 +331,30 @@ step_decided words =
         → (((s : ℕ) × AreWords words (step.Reset s)) → ⊥)
         → (s : Step) → AreWords words s → ⊥
     none no_session no_cap no_send no_video no_audio no_videos no_up no_down no_input no_idr no_time no_pump no_close no_reset step.Blank h = h
-    none no_session no_cap no_send no_video no_audio no_videos no_up no_down no_input no_idr no_time no_pump no_close no_reset (step.Session p q m w) h = no_session (p, q, m, w, h)
+    none no_session no_cap no_send no_video no_audio no_videos no_up no_down no_input no_idr no_time no_pump no_close no_reset (step.Session p q m w) h =
+        no_session (p, q, m, w, h)
     none no_session no_cap no_send no_video no_audio no_videos no_up no_down no_input no_idr no_time no_pump no_close no_reset step.Cap h = no_cap h
     none no_session no_cap no_send no_video no_audio no_videos no_up no_down no_input no_idr no_time no_pump no_close no_reset (step.Send s) h = no_send (s, h)
-    none no_session no_cap no_send no_video no_audio no_videos no_up no_down no_input no_idr no_time no_pump no_close no_reset (step.Video s k) h = no_video (s, k, h)
-    none no_session no_cap no_send no_video no_audio no_videos no_up no_down no_input no_idr no_time no_pump no_close no_reset (step.Audio s k) h = no_audio (s, k, h)
-    none no_session no_cap no_send no_video no_audio no_videos no_up no_down no_input no_idr no_time no_pump no_close no_reset (step.Videos s first last) h = no_videos (s, first, last, h)
+    none no_session no_cap no_send no_video no_audio no_videos no_up no_down no_input no_idr no_time no_pump no_close no_reset (step.Video s k) h =
+        no_video (s, k, h)
+    none no_session no_cap no_send no_video no_audio no_videos no_up no_down no_input no_idr no_time no_pump no_close no_reset (step.Audio s k) h =
+        no_audio (s, k, h)
+    none no_session no_cap no_send no_video no_audio no_videos no_up no_down no_input no_idr no_time no_pump no_close no_reset (step.Videos s first last) h =
+        no_videos (s, first, last, h)
     none no_session no_cap no_send no_video no_audio no_videos no_up no_down no_input no_idr no_time no_pump no_close no_reset (step.Up s k) h = no_up (s, k, h)
-    none no_session no_cap no_send no_video no_audio no_videos no_up no_down no_input no_idr no_time no_pump no_close no_reset (step.Down s k) h = no_down (s, k, h)
-    none no_session no_cap no_send no_video no_audio no_videos no_up no_down no_input no_idr no_time no_pump no_close no_reset (step.Input s e) h = no_input (s, (e, h))
+    none no_session no_cap no_send no_video no_audio no_videos no_up no_down no_input no_idr no_time no_pump no_close no_reset (step.Down s k) h =
+        no_down (s, k, h)
+    none no_session no_cap no_send no_video no_audio no_videos no_up no_down no_input no_idr no_time no_pump no_close no_reset (step.Input s e) h =
+        no_input (s, (e, h))
     none no_session no_cap no_send no_video no_audio no_videos no_up no_down no_input no_idr no_time no_pump no_close no_reset (step.Idr s) h = no_idr (s, h)
-    none no_session no_cap no_send no_video no_audio no_videos no_up no_down no_input no_idr no_time no_pump no_close no_reset (step.Time by) h = no_time (by, h)
-    none no_session no_cap no_send no_video no_audio no_videos no_up no_down no_input no_idr no_time no_pump no_close no_reset (step.Pump s every) h = no_pump (s, every, h)
-    none no_session no_cap no_send no_video no_audio no_videos no_up no_down no_input no_idr no_time no_pump no_close no_reset (step.Close s) h = no_close (s, h)
-    none no_session no_cap no_send no_video no_audio no_videos no_up no_down no_input no_idr no_time no_pump no_close no_reset (step.Reset s) h = no_reset (s, h)
+    none no_session no_cap no_send no_video no_audio no_videos no_up no_down no_input no_idr no_time no_pump no_close no_reset (step.Time by) h =
+        no_time (by, h)
+    none no_session no_cap no_send no_video no_audio no_videos no_up no_down no_input no_idr no_time no_pump no_close no_reset (step.Pump s every) h =
+        no_pump (s, every, h)
+    none no_session no_cap no_send no_video no_audio no_videos no_up no_down no_input no_idr no_time no_pump no_close no_reset (step.Close s) h =
+        no_close (s, h)
+    none no_session no_cap no_send no_video no_audio no_videos no_up no_down no_input no_idr no_time no_pump no_close no_reset (step.Reset s) h =
+        no_reset (s, h)
 
 -- ---- a line's step
 

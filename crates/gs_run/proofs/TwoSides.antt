@@ -5,7 +5,8 @@ use Rattle.std.proofs.lemmas.List.{append_assoc, append-nil, length-append}
 use Rattle.std.proofs.lemmas.List.Elements.{Contains-append_left}
 use Rattle.gs_enet.specs.declared.event.PeerEvent.{PeerEvent}
 use Rattle.gs_enet.specs.declared.event.PeerEvent.TheVariants as event
-use Rattle.gs_enet.specs.Record.{PeerRecord, Content, Connect, VerifyConnect, Disconnect, Message, given_on, given_count, messages_on, heard, heard_count, told, orders, at_moment, connecting, accepting}
+use Rattle.gs_enet.specs.Record.{PeerRecord, Content, Connect, VerifyConnect, Disconnect, Message, given_on, given_count, messages_on, heard, heard_count, told}
+use Rattle.gs_enet.specs.Record.{orders, at_moment, connecting, accepting}
 use Rattle.gs_enet.specs.Write.{Item, Answers, Orders, going_out}
 use Rattle.gs_enet.specs.World.{Written, Side, Write, acted, came, IsNear}
 use Rattle.gs_enet.specs.Laws.{AreInOrder}

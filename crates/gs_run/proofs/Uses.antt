@@ -6,8 +6,10 @@ use Rattle.gs_enet.specs.declared.event.PeerEvent.TheVariants as event
 use Rattle.gs_enet.specs.declared.state.PeerState.{PeerState}
 use Rattle.gs_enet.specs.declared.state.PeerState.TheVariants as state
 use Rattle.gs_enet.specs.declared.answer.Answer.{Answer}
-use Rattle.gs_enet.specs.Record.{PeerRecord, Unacknowledged, Content, Connect, VerifyConnect, Disconnect, Message, channels, control, heard, messages_on, is_shut, at_moment}
-use Rattle.gs_enet.specs.Receive.{expected, is_next, is_behind, takes_messages, taken_if, message_if, verified, verify_if, disconnect_if, connected, leave_if, acknowledged, is_named, acknowledged_if, answer_to, received, all_received}
+use Rattle.gs_enet.specs.Record.{PeerRecord, Unacknowledged, Content, Connect, VerifyConnect, Disconnect, Message, channels, control, heard, messages_on}
+use Rattle.gs_enet.specs.Record.{is_shut, at_moment}
+use Rattle.gs_enet.specs.Receive.{expected, is_next, is_behind, takes_messages, taken_if, message_if, verified, verify_if, disconnect_if, connected, leave_if}
+use Rattle.gs_enet.specs.Receive.{acknowledged, is_named, acknowledged_if, answer_to, received, all_received}
 use Rattle.gs_enet.specs.Steps.{is_lost, close_if, closed, timed_if, timed}
 use Rattle.gs_enet.specs.Write.{Item, Answers, Orders, item_command, order_command, wrote_next}
 use Rattle.gs_enet.specs.World.{Side, Written, came}

@@ -4,7 +4,8 @@ use Rattle.gs_run.specs.CaptureFile.{CaptureFile}
 use Rattle.gs_run.specs.Session.{Part, Session, State, session_numbered, with_session}
 use Rattle.gs_run.specs.Report.{Report, Acted, quietly, ◌>>=◌}
 use Rattle.gs_run.specs.Scene.{Scene, scene_of}
-use Rattle.gs_run.specs.Deed.{SessionDeed, Turn, TakeVideo, TakeAudio, TakeUp, TakeDown, Give, AskIdr, Close, Reset, Mark, Deed, Open, Capture, Pass, In}
+use Rattle.gs_run.specs.Deed.{SessionDeed, Turn, TakeVideo, TakeAudio, TakeUp, TakeDown, Give, AskIdr, Close, Reset}
+use Rattle.gs_run.specs.Deed.{Mark, Deed, Open, Capture, Pass, In}
 use Rattle.gs_run.specs.Connection.{settled}
 use Rattle.gs_run.specs.Hearing.{up_taken, down_taken, timed}
 use Rattle.gs_run.specs.Opening.{opened}

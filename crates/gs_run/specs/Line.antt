@@ -1,5 +1,6 @@
 -- Which deeds a line of a schedule stands for.
-use Rattle.std.specs.Prelude.{ℕ, ◌≡◌, ◌+◌, ◌-◌, ◌<◌, ◌≤◌, ◌^◌, false, List, [], ◌∷◌, length, map, Option, Some, None, Result, Ok, Err}
+use Rattle.std.specs.Prelude.{ℕ, ◌≡◌, ◌+◌, ◌-◌, ◌<◌, ◌≤◌, ◌^◌, false, List, [], ◌∷◌, length, map, Option, Some, None}
+use Rattle.std.specs.Prelude.{Result, Ok, Err}
 use Rattle.std.specs.List.{range_with_len}
 use Rattle.gs_schedule.specs.declared.step.Step.{Step}
 use Rattle.gs_schedule.specs.declared.step.Step.TheVariants as step
@@ -9,7 +10,8 @@ use Rattle.gs_run.specs.CaptureFile.{CaptureFile}
 use Rattle.gs_run.specs.Session.{Session, State, session_numbered}
 use Rattle.gs_run.specs.Report.{Acted}
 use Rattle.gs_run.specs.Scene.{Scene, scene_of}
-use Rattle.gs_run.specs.Deed.{SessionDeed, Turn, TakeVideo, TakeAudio, TakeUp, TakeDown, Give, AskIdr, Close, Reset, Mark, Deed, Open, Capture, Pass, In}
+use Rattle.gs_run.specs.Deed.{SessionDeed, Turn, TakeVideo, TakeAudio, TakeUp, TakeDown, Give, AskIdr, Close, Reset}
+use Rattle.gs_run.specs.Deed.{Mark, Deed, Open, Capture, Pass, In}
 use Rattle.gs_run.specs.Pump.{Pumping, ends_of, next_pumped, moved}
 use Rattle.gs_run.specs.Refusal.{Refusal}
 use Rattle.gs_run.specs.Done.{done}

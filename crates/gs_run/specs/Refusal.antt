@@ -1,5 +1,6 @@
 -- Which deeds are refused, and why.
-use Rattle.std.specs.Prelude.{ℕ, ◌+◌, ◌-◌, Bool, true, false, ◌&&◌, ◌||◌, not, List, length, Option, Some, None, is_some, slice_get, nat_lt, nat_le, if◌then◌else◌}
+use Rattle.std.specs.Prelude.{ℕ, ◌+◌, ◌-◌, Bool, true, false, ◌&&◌, ◌||◌, not, List, length, Option, Some, None}
+use Rattle.std.specs.Prelude.{is_some, slice_get, nat_lt, nat_le, if◌then◌else◌}
 use Rattle.gs_tape.specs.Reading.{Fault}
 use Rattle.gs_frames.specs.Client.{Datagram}
 use Rattle.gs_frames.specs.Asks.{newly_asked}
@@ -9,7 +10,8 @@ use Rattle.gs_run.specs.CaptureFile.{CaptureFile}
 use Rattle.gs_run.specs.Session.{Part, Session, State, video_of, audio_of, made_on, session_numbered}
 use Rattle.gs_client_core.specs.Owed.{request_channel}
 use Rattle.gs_run.specs.Scene.{Scene, scene_of}
-use Rattle.gs_run.specs.Deed.{SessionDeed, Turn, TakeVideo, TakeAudio, TakeUp, TakeDown, Give, AskIdr, Close, Reset, Mark, Deed, Open, Capture, Pass, In}
+use Rattle.gs_run.specs.Deed.{SessionDeed, Turn, TakeVideo, TakeAudio, TakeUp, TakeDown, Give, AskIdr, Close, Reset}
+use Rattle.gs_run.specs.Deed.{Mark, Deed, Open, Capture, Pass, In}
 use Rattle.gs_run.specs.Message.{event_channel}
 use Rattle.gs_run.specs.Opening.{most_sessions, are_settings}
 

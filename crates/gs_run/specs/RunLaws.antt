@@ -65,8 +65,8 @@ HandsReferences ticks part =
 abbrev pub RunsHandReferences : Type 0
 RunsHandReferences = OfEachPart HandsReferences
 
--- Each audio unit that is played is, byte for byte, the captured one of its number, of all that the history put, and the
--- numbers rise.
+-- Each audio unit that is played is, byte for byte, the captured one of its number, of all that the history put, and
+-- the numbers rise.
 pub record PlaysCaptured (ticks : List Tick) (part : Part) : Type 0 where
   pub units : All (IsUnitOf (audio_units ticks part.history)) (played_of part)
   pub rising : HaveRisingNumbers (played_of part)

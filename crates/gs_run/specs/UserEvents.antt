@@ -1,5 +1,6 @@
 -- What the user of a session does: its client gives it to its connection, and its host is told it.
-use Rattle.std.specs.Prelude.{ℕ, ◌≡◌, ◌≢◌, ◌==◌, ◌&&◌, not, List, [], ◌∷◌, ◌++◌, map, Option, Some, Result, Ok, Err, if◌then◌else◌, ⊤}
+use Rattle.std.specs.Prelude.{ℕ, ◌≡◌, ◌≢◌, ◌==◌, ◌&&◌, not, List, [], ◌∷◌, ◌++◌, map, Option, Some, Result, Ok, Err}
+use Rattle.std.specs.Prelude.{if◌then◌else◌, ⊤}
 use Rattle.std.specs.List.{AllByRecursion, Contains, filter}
 use Rattle.gs_bytes.specs.Prefix.{IsPrefixOf}
 use Rattle.gs_input.specs.declared.event.Event.{Event}
@@ -29,7 +30,9 @@ event_message event = bytes_of (message.Input event)
 -- the event of a deed in a session, where it is of that channel and the channel's window takes it
 abbrev pub event_in : ℕ → SessionDeed → Option Session → List Event
 event_in channel (Give event) (Some session) =
-    if event_channel event == channel && not (is_full session.part.client.peer (event_channel event)) then event ∷ [] else []
+    if event_channel event == channel && not (is_full session.part.client.peer (event_channel event))
+    then event ∷ []
+    else []
 event_in channel _ _ = []
 
 -- where the deed is in the session of that number
@@ -42,8 +45,8 @@ abbrev pub and_events : List Event → Result (Acted State) Refusal → (State �
 and_events events (Err why) next = []
 and_events events (Ok acted) next = events ++ next acted.value
 
--- what the user of a session does on a channel with these deeds, in order: each of them is found in the state that the one
--- before it left
+-- what the user of a session does on a channel with these deeds, in order: each of them is found in the state that the
+-- one before it left
 unfoldable pub user_events : CaptureFile → (number channel : ℕ) → List Deed → State → List Event
 user_events file number channel [] state = []
 user_events file number channel (deed ∷ deeds) state =
@@ -55,7 +58,8 @@ GiveEvents file deeds state =
     (number channel : ℕ) (session : Session) → channel ≢ request_channel → session_numbered state number ≡ Some session
     → given_on channel session.part.client.peer.given ≡ map event_message (user_events file number channel deeds start)
 
--- the event that a deed or a step has, if any, is of a known kind with its numbers in range, as the lines of a schedule are
+-- the event that a deed or a step has, if any, is of a known kind with its numbers in range,
+-- as the lines of a schedule are
 abbrev pub IsProper : Deed → Type 0
 IsProper (In session (Give event)) = IsEvent event
 IsProper _ = ⊤
@@ -68,8 +72,8 @@ IsProperStep _ = ⊤
 abbrev pub told_events : ℕ → Part → List Event
 told_events channel part = map (λ t. t.event) (filter (λ t. t.channel == channel) (inputs_of part))
 
--- On a channel the host was told what the user did there first, in order, and all of it once a line says that the client
--- closed.
+-- On a channel the host was told what the user did there first, in order,
+-- and all of it once a line says that the client closed.
 pub record TellsUser (file : CaptureFile) (deeds : List Deed) (reports : List Report) (number channel : ℕ) (part : Part)
     : Type 0 where
   pub prefix : IsPrefixOf (told_events channel part) (user_events file number channel deeds start)

@@ -1,5 +1,7 @@
--- What holds of every run, from the lines of a schedule to the lines of its text: behind each of its deeds, and at its end.
-use Rattle.std.specs.Prelude.{ℕ, ◌≡◌, ◌^◌, ◌<◌, ◌≤◌, Bool, true, false, List, [], ◌∷◌, ◌++◌, map, take, Option, Some, None}
+-- What holds of every run, from the lines of a schedule to the lines of its text: behind each of its deeds,
+-- and at its end.
+use Rattle.std.specs.Prelude.{ℕ, ◌≡◌, ◌^◌, ◌<◌, ◌≤◌, Bool, true, false, List, [], ◌∷◌, ◌++◌, map, take}
+use Rattle.std.specs.Prelude.{Option, Some, None}
 use Rattle.std.specs.List.{All, AllByRecursion, Contains, flat_map}
 use Rattle.gs_tape.specs.Tick.{Tick}
 use Rattle.gs_refs.specs.declared.entry.Entry.{Entry}
@@ -31,8 +33,8 @@ abbrev pub ending : TrialStatus → State → List Report
 ending status.Ok state = totals_from 1 state.sessions ++ plain output.Done ∷ []
 ending _ state = []
 
--- These deeds were done one after the other, and none of them was refused. They left the run's state, and what they reported
--- is all that it reports, but for its ending.
+-- These deeds were done one after the other, and none of them was refused. They left the run's state, and what they
+-- reported is all that it reports, but for its ending.
 pub record IsDoneBy (file : CaptureFile) (run : Run) (deeds : List Deed) : Type 0 where
   pub none_refused : (ran file deeds start).refused ≡ None
   pub state : (ran file deeds start).state ≡ run.state
@@ -41,9 +43,9 @@ pub record IsDoneBy (file : CaptureFile) (run : Run) (deeds : List Deed) : Type 
 -- ---- what holds of the parts of its sessions
 
 -- What holds of a part. Its history is one that a host may have; each datagram that its client was given went out, and
--- what its host took as invalid is a prefix of what its client asked for. Each frame that was handed is, byte for byte, its
--- captured unit, and the frame that it refers to was handed before it, behind the last reset. Each audio unit that was
--- played is the captured one. What the host was told on a channel is what the client gave there first, in order.
+-- what its host took as invalid is a prefix of what its client asked for. Each frame that was handed is, byte for byte,
+-- its captured unit, and the frame that it refers to was handed before it, behind the last reset. Each audio unit that
+-- was played is the captured one. What the host was told on a channel is what the client gave there first, in order.
 pub record PartHolds (ticks : List Tick) (part : Part) : Type 0 where
   pub paired : IsPairedPart ticks part
   pub captured : HandsCaptured ticks part
@@ -53,7 +55,8 @@ pub record PartHolds (ticks : List Tick) (part : Part) : Type 0 where
 
 -- of each part of each session
 abbrev pub EachPartHolds : CaptureFile → State → Type 0
-EachPartHolds file state = AllByRecursion (λ session. AllByRecursion (PartHolds file.ticks) (parts_of session)) state.sessions
+EachPartHolds file state =
+    AllByRecursion (λ session. AllByRecursion (PartHolds file.ticks) (parts_of session)) state.sessions
 
 -- no session has an earlier part
 abbrev pub HaveOnePart : State → Type 0
@@ -61,7 +64,8 @@ HaveOnePart state = AllByRecursion (λ session. session.earlier ≡ []) state.se
 
 -- ---- what is reported
 
--- an entry of the host's history: a frame sent, a range taken as invalid, a frame asked for that needs no other, the end
+-- an entry of the host's history: a frame sent, a range taken as invalid, a frame asked for that needs no other,
+-- the end
 abbrev pub is_entry : Output → Bool
 is_entry (output.Sent session frame kind tick reference) = true
 is_entry (output.Invalid session first last) = true
@@ -93,8 +97,8 @@ abbrev pub ReportsAre : (Output → Bool) → (ℕ → Part → List Report) →
 ReportsAre kind give state reports =
     (number : ℕ) → lines_of kind number reports ≡ given_by (give number) (session_numbered state number)
 
--- The lines of each of these kinds, in order: the entries of the host's history, the frames handed with their units, the
--- ranges asked for, the audio units played, the input events told, and that the client closed.
+-- The lines of each of these kinds, in order: the entries of the host's history, the frames handed with their units,
+-- the ranges asked for, the audio units played, the input events told, and that the client closed.
 pub record LinesHold (state : State) (reports : List Report) : Type 0 where
   pub entries : ReportsAre is_entry (λ number part. entry_reports number part.history) state reports
   pub handed : ReportsAre is_hand (λ number part. map (hand_report number) (handed_of part)) state reports
@@ -129,9 +133,9 @@ RunsTellAllOnceClosed =
 
 -- ---- what holds of a run
 
--- What holds of a state, with the deeds that led to it and all that was reported on the way: what its parts keep, what the
--- lines are, what each client gave of what its user did, and what of it its host was told, whole once a line says that the
--- client closed.
+-- What holds of a state, with the deeds that led to it and all that was reported on the way: what its parts keep, what
+-- the lines are, what each client gave of what its user did, and what of it its host was told, whole once a line says
+-- that the client closed.
 pub record StateHolds (file : CaptureFile) (deeds : List Deed) (state : State) (reports : List Report) : Type 0 where
   pub parts : EachPartHolds file state
   pub one_part : HaveOnePart state
@@ -145,7 +149,8 @@ pub record RunHolds (file : CaptureFile) (run : Run) : Type 0 where
   pub deeds : List Deed
   pub done : IsDoneBy file run deeds
   pub proper : AllByRecursion IsProper deeds
-  pub at_each_step : (n : ℕ) → let did = ran file (take n deeds) start in StateHolds file (take n deeds) did.state did.reports
+  pub at_each_step : (n : ℕ)
+      → let did = ran file (take n deeds) start in StateHolds file (take n deeds) did.state did.reports
   pub at_the_end : StateHolds file deeds run.state run.reports
 
 -- ---- laws of whole runs
@@ -153,11 +158,13 @@ pub record RunHolds (file : CaptureFile) (run : Run) : Type 0 where
 -- each run did a list of deeds, over any file
 abbrev pub RunsHaveDeeds : Type 0
 RunsHaveDeeds =
-    (file : CaptureFile) (lines : List (List ℕ)) (run : Run) → IsRun file lines run → (deeds : List Deed) × IsDoneBy file run deeds
+    (file : CaptureFile) (lines : List (List ℕ)) (run : Run)
+    → IsRun file lines run → (deeds : List Deed) × IsDoneBy file run deeds
 
 abbrev pub RunsOfStepsHaveDeeds : Type 0
 RunsOfStepsHaveDeeds =
-    (file : CaptureFile) (steps : List Step) (run : Run) → IsRunOfSteps file steps run → (deeds : List Deed) × IsDoneBy file run deeds
+    (file : CaptureFile) (steps : List Step) (run : Run)
+    → IsRunOfSteps file steps run → (deeds : List Deed) × IsDoneBy file run deeds
 
 -- a file whose head has no fault is a capture
 abbrev pub IsCaptureUnlessFaulty : CaptureFile → Type 0

@@ -43,8 +43,10 @@ pub completes : (detail : Detail) (tape schedule old new : Option (List ℕ)) (r
     → (Rose t t' → ⊥) → (Rose s s' → ⊥) → (Rose w w' → ⊥) → CompletesIfTold tape schedule (answer_of r)
 completes detail None schedule old new r t t' s s' w w' answers cause tape_counts schedule_counts write_counts no_tape no_schedule no_write = tt
 completes detail (Some tape) None old new r t t' s s' w w' answers cause tape_counts schedule_counts write_counts no_tape no_schedule no_write = tt
-completes detail (Some tape) (Some schedule) old new (Ok done) t t' s s' w w' answers cause tape_counts schedule_counts write_counts no_tape no_schedule no_write =
+completes detail (Some tape) (Some schedule) old new (Ok done) t t' s s' w w' answers cause tape_counts schedule_counts write_counts
+    no_tape no_schedule no_write =
     λ run is ok. inl refl
-completes detail (Some tape) (Some schedule) old new (Err e) t t' s s' w w' answers cause tape_counts schedule_counts write_counts no_tape no_schedule no_write =
+completes detail (Some tape) (Some schedule) old new (Err e) t t' s s' w w' answers cause tape_counts schedule_counts write_counts
+    no_tape no_schedule no_write =
     error_of detail tape schedule old new e cause (λ is. no_tape (tape_counts.0 is)) (λ is. no_schedule (schedule_counts.0 is))
     (λ is. no_write (write_counts.0 is)) answers

@@ -1,5 +1,6 @@
 -- A generated file that is copied piece by piece.
-use Rattle.std.proofs.Common.{◌≡◌, ◌<◌, ◌≤◌, ◌++◌, ◌∙◌, ℕ, List, [], length, length-append, length-take-le, take, Option, refl, sym, ap, subst, arith, append-nil, append_assoc, Result, Ok, Err, ◌⊎◌, inl, inr}
+use Rattle.std.proofs.Common.{◌≡◌, ◌<◌, ◌≤◌, ◌++◌, ◌∙◌, ℕ, List, [], length, length-append, length-take-le, take, Option, refl, sym, ap, subst, arith}
+use Rattle.std.proofs.Common.{append-nil, append_assoc, Result, Ok, Err, ◌⊎◌, inl, inr}
 use Rattle.std.specs.Prelude.{IfErr, OnErr, OnOk, ⊤}
 use Rattle.std.specs.Io.KnownBytes.{Appends}
 use Rattle.std.proofs.KnownBytes.{Appends-nil, Appends-trans}

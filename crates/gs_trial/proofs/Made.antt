@@ -40,15 +40,15 @@ unmade hold number ticks few a =
     let some = steps_some (generated_file number ticks) 1 (generated_steps ticks) start in
     record { run = some.0; is_run = some.1; writes = quiet Sums some.0 a status.OutOfMemory refl; holds = hold number ticks some.0 few some.1 }
 
-ends : GeneratedRunsHold → (number ticks : ℕ) → ticks ≤ 2000 → (a b : Option (List ℕ)) (answer : TrialStatus) → EndsRun IsStep (record { detail = Sums; text = [] })
-    (generated_file number ticks) 1 (generated_steps ticks) start a b answer
+ends : GeneratedRunsHold → (number ticks : ℕ) → ticks ≤ 2000 → (a b : Option (List ℕ)) (answer : TrialStatus)
+    → EndsRun IsStep (record { detail = Sums; text = [] }) (generated_file number ticks) 1 (generated_steps ticks) start a b answer
     → AnswersMake number ticks a b answer
 ends hold number ticks few a b answer e =
     record { run = e.run; is_run = e.runs; writes = e.writes; holds = hold number ticks e.run few e.runs }
 
 -- a step ended it
-pub make_ends : GeneratedRunsHold → (number ticks : ℕ) (before : Reporting) (bytes : List ℕ) (steps : List Step) (feed : Feeding) (trial : Trial) (a b left : Option (List ℕ))
-    (answer : TrialStatus)
+pub make_ends : GeneratedRunsHold → (number ticks : ℕ) (before : Reporting) (bytes : List ℕ) (steps : List Step) (feed : Feeding) (trial : Trial)
+    (a b left : Option (List ℕ)) (answer : TrialStatus)
     → ticks ≤ 2000 → bytes ≡ file 240 5 (generated number ticks) → steps ≡ generated_steps ticks → before ≡ record { detail = Sums; text = [] }
     → Opens (Some bytes) left (Ok feed)
     → ((file : CaptureFile) (left : Option (List ℕ)) → IsFeedOf feed file left → StandsFor trial file left start)

@@ -133,8 +133,8 @@ headless hold detail bytes lines a why answer is names of =
     (by_answer (new_reporter detail) run a a answer true of (names, Appends-nil a))
 
 -- a file that isn't opened
-pub open_fails : RunsOverBytesHold → (detail : Detail) (bytes : List ℕ) (lines : List ℕ) (a left : Option (List ℕ)) (e : TapeError) → Opens (Some bytes) left (Err e)
-    → AnswersScript detail bytes lines a a (tape_status e)
+pub open_fails : RunsOverBytesHold → (detail : Detail) (bytes : List ℕ) (lines : List ℕ) (a left : Option (List ℕ)) (e : TapeError)
+    → Opens (Some bytes) left (Err e) → AnswersScript detail bytes lines a a (tape_status e)
 open_fails hold detail bytes lines a left tape_error.TapeFault opens = unopened hold detail bytes lines a status.TapeFault refl
 open_fails hold detail bytes lines a left tape_error.OutOfMemory opens = unopened hold detail bytes lines a status.OutOfMemory refl
 open_fails hold detail bytes lines a left (tape_error.BadTape kind place) opens = headless hold detail bytes lines a _ _ opens refl refl
@@ -150,8 +150,9 @@ ends_script hold detail bytes lines a b answer none ends =
     answers hold detail bytes lines a b answer ends.run (whole_run (file_of bytes) (lines_of lines) ends.run none ends.runs) ends.writes
 
 -- behind all lines or steps the run ends as the file does
-pub finishes : {A : Type 0} (Has : ℕ → A → Option Step → Type 0) (before : Reporting) (file : CaptureFile) (steps : List A) (from : State) (a b c : Option (List ℕ))
-    (n : ℕ) (trial : Trial) (left : Option (List ℕ)) (answer : TrialStatus) → LedTo Has before file 1 steps from a b n [] trial left
+pub finishes : {A : Type 0} (Has : ℕ → A → Option Step → Type 0) (before : Reporting) (file : CaptureFile) (steps : List A) (from : State)
+    (a b c : Option (List ℕ)) (n : ℕ) (trial : Trial) (left : Option (List ℕ)) (answer : TrialStatus)
+    → LedTo Has before file 1 steps from a b n [] trial left
     → ((state : State) → StandsFor trial file left state → WritesBehind trial.reporter (finished file.fault state) b c answer)
     → EndsRun Has before file 1 steps from a c answer
 finishes Has before file steps from a b c n trial left answer led ends =
@@ -160,16 +161,16 @@ finishes Has before file steps from a b c n trial left answer led ends =
 
 -- ---- what the calls say together
 
-pub script_unopened : RunsOverBytesHold → (detail : Detail) (tape schedule a left : Option (List ℕ)) (e : TapeError) (answer : TrialStatus) → answer ≡ tape_status e
-    → Opens tape left (Err e)
+pub script_unopened : RunsOverBytesHold → (detail : Detail) (tape schedule a left : Option (List ℕ)) (e : TapeError) (answer : TrialStatus)
+    → answer ≡ tape_status e → Opens tape left (Err e)
     → AnswersIfTold detail tape schedule a a answer
 script_unopened hold detail None schedule a left e answer is opens = tt
 script_unopened hold detail (Some tape) None a left e answer is opens = tt
 script_unopened hold detail (Some tape) (Some schedule) a left e answer is opens =
     subst (AnswersScript detail tape schedule a a) (sym is) (open_fails hold detail tape schedule a left e opens)
 
-pub script_ends : RunsOverBytesHold → (detail : Detail) (before : Reporting) (tape schedule a b left : Option (List ℕ)) (feed : Feeding) (trial : Trial) (answer : TrialStatus)
-    → before ≡ record { detail = detail; text = [] } → Opens tape left (Ok feed)
+pub script_ends : RunsOverBytesHold → (detail : Detail) (before : Reporting) (tape schedule a b left : Option (List ℕ)) (feed : Feeding)
+    (trial : Trial) (answer : TrialStatus) → before ≡ record { detail = detail; text = [] } → Opens tape left (Ok feed)
     → ((file : CaptureFile) (left : Option (List ℕ)) → IsFeedOf feed file left → StandsFor trial file left start)
     → ((file : CaptureFile) (state : State) (bytes : List ℕ) → StandsFor trial file left state → schedule ≡ Some bytes
     → EndsRun HasStep before file 1 (lines_of bytes) state a b answer) → AnswersIfTold detail tape schedule a b answer
@@ -181,8 +182,8 @@ script_ends hold detail before (Some tape) (Some schedule) a b left feed trial a
     ends_script hold detail tape schedule a b answer is.head
     (subst (λ (r : Reporting). EndsRun HasStep r file 1 (lines_of schedule) start a b answer) same (ends file start schedule (stands file left is) refl))
 
-pub script_finishes : RunsOverBytesHold → (detail : Detail) (before : Reporting) (tape schedule a b c left left' : Option (List ℕ)) (feed : Feeding) (trial new : Trial)
-    (answer : TrialStatus) → before ≡ record { detail = detail; text = [] }
+pub script_finishes : RunsOverBytesHold → (detail : Detail) (before : Reporting) (tape schedule a b c left left' : Option (List ℕ)) (feed : Feeding)
+    (trial new : Trial) (answer : TrialStatus) → before ≡ record { detail = detail; text = [] }
     → Opens tape left (Ok feed) → ((file : CaptureFile) (left : Option (List ℕ)) → IsFeedOf feed file left → StandsFor trial file left start)
     → ((file : CaptureFile) (state : State) (bytes : List ℕ) → StandsFor trial file left state → schedule ≡ Some bytes
     → (n : ℕ) × LedTo HasStep before file 1 (lines_of bytes) state a b n [] new left')

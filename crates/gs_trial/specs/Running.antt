@@ -1,5 +1,5 @@
--- The run of lines, or of steps, on the way: what was run so far, and what is left to run. Their text is gathered before it
--- is written: of what was reported a part waits.
+-- The run of lines, or of steps, on the way: what was run so far, and what is left to run. Their text is gathered
+-- before it is written: of what was reported a part waits.
 use Rattle.std.specs.Prelude.{ℕ, ◌≡◌, ◌++◌, List, Option, Some, None, MatchBool}
 use Rattle.std.specs.Io.KnownBytes.{Appends}
 use Rattle.gs_schedule.specs.declared.step.Step.{Step}
@@ -23,8 +23,8 @@ use Rattle.gs_trial.specs.Trial.{WritesFront, is_of_run}
 abbrev pub WritesUpTo : (old new : Option (List ℕ)) → (text waits : List ℕ) → Type 0
 WritesUpTo old new text waits = (written : List ℕ) × Appends old new written × (text ≡ written ++ waits)
 
--- A run ends with this answer, and what waited before it was written with the whole text of the run; a front of both where
--- the answer isn't the run's.
+-- A run ends with this answer, and what waited before it was written with the whole text of the run; a front of both
+-- where the answer isn't the run's.
 abbrev pub WritesBehind : Reporting → Run → (old new : Option (List ℕ)) → TrialStatus → Type 0
 WritesBehind before run old new answer =
     MatchBool (is_of_run answer)
@@ -47,11 +47,11 @@ pub record Leads {A : Type 0} (Has : ℕ → A → Option Step → Type 0) (file
   pub leads : (run : Run) → RunsFrom Has file number' steps' state' run
       → RunsFrom Has file number steps state (behind reports run)
 
--- Steps were run, up to those that are left; the trial stands for what they left, and of what waited before and their text
--- it was written all but what waits now.
-pub record LedTo {A : Type 0} (Has : ℕ → A → Option Step → Type 0) (before : Reporting) (file : CaptureFile) (number : ℕ)
-    (steps : List A) (state : State) (old new : Option (List ℕ)) (number' : ℕ) (steps' : List A) (trial : Trial)
-    (left : Option (List ℕ)) : Type 0 where
+-- Steps were run, up to those that are left; the trial stands for what they left, and of what waited before and their
+-- text it was written all but what waits now.
+pub record LedTo {A : Type 0} (Has : ℕ → A → Option Step → Type 0) (before : Reporting) (file : CaptureFile)
+    (number : ℕ) (steps : List A) (state : State) (old new : Option (List ℕ)) (number' : ℕ) (steps' : List A)
+    (trial : Trial) (left : Option (List ℕ)) : Type 0 where
   pub reached : State
   pub reports : List Report
   pub run : Leads Has file number steps state reports number' steps' reached
@@ -59,10 +59,10 @@ pub record LedTo {A : Type 0} (Has : ℕ → A → Option Step → Type 0) (befo
   pub detail_is : trial.reporter.detail ≡ before.detail
   pub writes : WritesUpTo old new (with_reports before reports).text trial.reporter.text
 
--- The run of these steps ends with this answer, and what waited before and its text were written; where the answer isn't
--- the run's, a front of both.
-pub record EndsRun {A : Type 0} (Has : ℕ → A → Option Step → Type 0) (before : Reporting) (file : CaptureFile) (number : ℕ)
-    (steps : List A) (state : State) (old new : Option (List ℕ)) (answer : TrialStatus) : Type 0 where
+-- The run of these steps ends with this answer, and what waited before and its text were written; where the answer
+-- isn't the run's, a front of both.
+pub record EndsRun {A : Type 0} (Has : ℕ → A → Option Step → Type 0) (before : Reporting) (file : CaptureFile)
+    (number : ℕ) (steps : List A) (state : State) (old new : Option (List ℕ)) (answer : TrialStatus) : Type 0 where
   pub run : Run
   pub runs : RunsFrom Has file number steps state run
   pub writes : WritesBehind before run old new answer

@@ -38,8 +38,8 @@ pub record StandsFor (trial : Trial) (file : CaptureFile) (left : Option (List �
   pub moment : trial.moment ≡ state.moment
   pub sessions : AreSessions file.ticks 1 trial.sessions.items state.sessions
 
--- The capture file is read on: no read of it failed or met its end. Its audio is known, and the ticks that the next turn of
--- each session sends the audio of are still kept.
+-- The capture file is read on: no read of it failed or met its end. Its audio is known, and the ticks that the next
+-- turn of each session sends the audio of are still kept.
 pub record IsReady (trial : Trial) : Type 0 where
   pub stage : trial.feed.tape.stage ≡ Open
   pub audio : trial.feed.tape.audio ≤ most_audio

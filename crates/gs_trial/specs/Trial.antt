@@ -1,6 +1,6 @@
 -- What a trial writes and answers. What an object doesn't tell is `None`.
-use Rattle.std.specs.Prelude.{ℕ, ◌≡◌, ◌≢◌, ◌⊎◌, ◌<◌, ◌^◌, Bool, true, false, List, take, Option, Some, None, Result, Ok, Err}
-use Rattle.std.specs.Prelude.{MatchBool, ⊤}
+use Rattle.std.specs.Prelude.{ℕ, ◌≡◌, ◌≢◌, ◌⊎◌, ◌<◌, ◌^◌, Bool, true, false, List, take, Option, Some, None}
+use Rattle.std.specs.Prelude.{Result, Ok, Err, MatchBool, ⊤}
 use Rattle.std.specs.List.{All}
 use Rattle.std.specs.Io.KnownBytes.{Appends}
 use Rattle.gs_bytes.specs.Outside.{Rose}
@@ -36,8 +36,8 @@ WritesRun detail run old new answer =
     ((run.status ≡ answer) × Appends old new (run_text detail run))
     (WritesFront old new (run_text detail run))
 
--- The run of a schedule with these bytes over the capture file with these. What holds of every run over bytes holds of it:
--- of what its sessions did behind each deed, and of its lines.
+-- The run of a schedule with these bytes over the capture file with these. What holds of every run over bytes holds of
+-- it: of what its sessions did behind each deed, and of its lines.
 pub record AnswersScript (detail : Detail) (tape schedule : List ℕ) (old new : Option (List ℕ)) (answer : TrialStatus)
     : Type 0 where
   pub run : Run

@@ -29,16 +29,16 @@ returns-in_err-run_steps-clause-answers g c =
     let p = err_from_is_err_and c.from_residual.result c.from_residual.ensures.1 in
     let trial = c.new-trial.result in
     rw (p.1, p.2)
-    (make_ends c.whole_runs_hold.ensures.generated c.args.generated.number c.args.generated.ticks trial.reporter c.in-Ok-open.file.left c.deref.result.now c.in-Ok-open-2.feed trial
-    (g.K.Outside.written c.args.out.now) (g.K.Outside.written c.run_steps.new.out) _ c.in_err-run_steps.field-0.0 c.requires.few c.in-Ok-open.ensures
-    (c.deref.ensures.value ∙ c.in-Ok.ensures.steps) c.new-trial.ensures.text
+    (make_ends c.whole_runs_hold.ensures.generated c.args.generated.number c.args.generated.ticks trial.reporter c.in-Ok-open.file.left
+    c.deref.result.now c.in-Ok-open-2.feed trial (g.K.Outside.written c.args.out.now) (g.K.Outside.written c.run_steps.new.out) _
+    c.in_err-run_steps.field-0.0 c.requires.few c.in-Ok-open.ensures (c.deref.ensures.value ∙ c.in-Ok.ensures.steps) c.new-trial.ensures.text
     c.in-Ok-open-2.ensures.opens c.new-trial.ensures.stands c.in_err-run_steps.ensures.ends)
 
 pub returns-clause-answers : goal.returns-clause-answers
 returns-clause-answers g c =
     let trial = c.new-trial.result in
-    make_finishes c.whole_runs_hold.ensures.generated c.args.generated.number c.args.generated.ticks trial.reporter c.in-Ok-open.file.left c.deref.result.now c.in-Ok-open-2.feed trial
-    c.run_steps.new.self (g.K.Outside.written c.args.out.now) (g.K.Outside.written c.run_steps.new.out) (g.K.Outside.written c.finish.new.out) _ _ _
-    c.requires.few
+    make_finishes c.whole_runs_hold.ensures.generated c.args.generated.number c.args.generated.ticks trial.reporter c.in-Ok-open.file.left
+    c.deref.result.now c.in-Ok-open-2.feed trial c.run_steps.new.self (g.K.Outside.written c.args.out.now)
+    (g.K.Outside.written c.run_steps.new.out) (g.K.Outside.written c.finish.new.out) _ _ _ c.requires.few
     c.in-Ok-open.ensures (c.deref.ensures.value ∙ c.in-Ok.ensures.steps) c.new-trial.ensures.text c.in-Ok-open-2.ensures.opens c.new-trial.ensures.stands
     c.in_ok-run_steps.ensures.led c.finish.ensures.finishes

@@ -16,17 +16,15 @@ returns-in_err-run_lines-clause-answers g c =
     let trial = c.new-trial.result in
     rw (p.1, p.2)
     (script_ends c.whole_runs_hold.ensures.bytes c.args.detail trial.reporter (g.S.Outside.left c.args.tape.now) (g.T.Outside.left c.args.schedule.now)
-    (g.K.Outside.written c.args.out.now)
-    (g.K.Outside.written c.run_lines.new.out) _ c.in-Ok.feed trial c.in_err-run_lines.field-0.0 c.new-trial.ensures.text c.in-Ok.ensures.opens c.new-trial.ensures.stands
-    c.in_err-run_lines.ensures.ends)
+    (g.K.Outside.written c.args.out.now) (g.K.Outside.written c.run_lines.new.out) _ c.in-Ok.feed trial c.in_err-run_lines.field-0.0
+    c.new-trial.ensures.text c.in-Ok.ensures.opens c.new-trial.ensures.stands c.in_err-run_lines.ensures.ends)
 
 pub returns-clause-answers : goal.returns-clause-answers
 returns-clause-answers g c =
     let trial = c.new-trial.result in
     script_finishes c.whole_runs_hold.ensures.bytes c.args.detail trial.reporter (g.S.Outside.left c.args.tape.now) (g.T.Outside.left c.args.schedule.now)
-    (g.K.Outside.written c.args.out.now)
-    (g.K.Outside.written c.run_lines.new.out) (g.K.Outside.written c.finish.new.out) _ _ c.in-Ok.feed trial c.run_lines.new.self _ c.new-trial.ensures.text c.in-Ok.ensures.opens
-    c.new-trial.ensures.stands c.in_ok-run_lines.ensures.led c.finish.ensures.finishes
+    (g.K.Outside.written c.args.out.now) (g.K.Outside.written c.run_lines.new.out) (g.K.Outside.written c.finish.new.out) _ _ c.in-Ok.feed trial
+    c.run_lines.new.self _ c.new-trial.ensures.text c.in-Ok.ensures.opens c.new-trial.ensures.stands c.in_ok-run_lines.ensures.led c.finish.ensures.finishes
 
 pub returns-in-Err-clause-head_first : goal.returns-in-Err-clause-head_first
 returns-in-Err-clause-head_first g c = λ is. not_of_schedule c.in-Err.error _ (sym c.tape_status.ensures ∙ is)

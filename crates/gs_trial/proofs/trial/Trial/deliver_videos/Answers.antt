@@ -30,5 +30,5 @@ returns-clause-ran c =
 pub returns-clause-ready : goal.returns-clause-ready
 returns-clause-ready c =
     on_any c.allowed.result _
-    (ready_sent c.args.self.now _ c.in_ok-place.place c.index_mut.result.now c.deliver_videos.new.self refl refl c.in_ok-place.ensures.ok.1 c.index_mut.ensures.value
-    c.in_ok-done.ensures.sent c.requires.ready)
+    (ready_sent c.args.self.now _ c.in_ok-place.place c.index_mut.result.now c.deliver_videos.new.self refl refl
+    c.in_ok-place.ensures.ok.1 c.index_mut.ensures.value c.in_ok-done.ensures.sent c.requires.ready)
