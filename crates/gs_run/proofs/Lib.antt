@@ -26,6 +26,7 @@ pub mod SomeRun
 pub mod InputLines
 pub mod DoneRuns
 pub mod Captures
+pub mod OwnLines
 pub mod HostLines
 pub mod OneParts
 pub mod ToldEvents
