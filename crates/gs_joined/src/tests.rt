@@ -1,2 +1,3 @@
 mod joined;
+mod rows;
 mod sending;
