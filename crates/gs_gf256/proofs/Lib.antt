@@ -4,6 +4,7 @@ pub mod AllBelow
 pub mod FieldLemmas
 pub mod FieldSums
 pub mod Powers
+pub mod Logarithms
 pub mod Inverses
 pub mod LaneLemmas
 pub mod HalfTables

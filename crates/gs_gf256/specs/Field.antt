@@ -43,6 +43,11 @@ inverse a = inverse_below 256 a
 abbrev pub quotient : ℕ → ℕ → ℕ
 quotient a b = product a (inverse b)
 
+-- 2 to the power i
+unfoldable pub power : ℕ → ℕ
+power zero = 1
+power (suc i) = product (power i) 2
+
 -- the sum of f 0, f 1, .. f (n - 1)
 unfoldable pub field_sum : (ℕ → ℕ) → ℕ → ℕ
 field_sum f zero = 0

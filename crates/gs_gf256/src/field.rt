@@ -1,7 +1,7 @@
-// The product and the inverse.
+// The product, the inverse, and powers and logarithms to the base 2.
 
-ghost use Rattle.std.specs.Prelude.{◌≡◌, ◌≢◌};
-ghost use Rattle.gs_gf256.specs.Field.{product, inverse, IsInverse};
+ghost use Rattle.std.specs.Prelude.{◌≡◌, ◌≢◌, ◌<◌, if◌then◌else◌, ◌==◌};
+ghost use Rattle.gs_gf256.specs.Field.{product, inverse, IsInverse, power};
 
 use crate::tables::{LOGARITHMS, POWERS};
 
@@ -24,4 +24,22 @@ pub fn inv(a: u8) -> u8
 {
     let logarithm = LOGARITHMS[a as usize] as usize;
     POWERS[255 - logarithm]
+}
+
+/// The logarithm of `a` to the base 2, so that logarithms add up where elements are multiplied: the
+/// exponent below 255 of the power of 2 that `a` is. That of 0 is 0, as if it were 1.
+#[inline]
+pub fn log(a: u8) -> u8
+    ensures below { result < 255 }
+    ensures power { power result ≡ (if a == 0 then 1 else a) }
+{
+    LOGARITHMS[a as usize]
+}
+
+/// The power of 2 with this exponent.
+#[inline]
+pub fn exp(exponent: u32) -> u8
+    ensures { result ≡ power exponent }
+{
+    POWERS[(exponent % 255) as usize]
 }

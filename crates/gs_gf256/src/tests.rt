@@ -2,7 +2,7 @@
 
 ghost use Rattle.std.specs.Prelude.{◌≤◌};
 
-use crate::{BLOCK_LEN, TABLE_LEN, inv, mul, mul_add, sum_two, write_block, write_table};
+use crate::{BLOCK_LEN, TABLE_LEN, exp, inv, log, mul, mul_add, sum_two, write_block, write_table};
 use std::process::Abort;
 
 const LONGEST: usize = 200;
@@ -35,6 +35,17 @@ fn products(rt: HostRuntime) {
     for a in 0..=255u8 {
         for b in 0..=255u8 {
             assert_eq!(rt; mul(a, b), shift_and_xor(a, b));
+        }
+    }
+}
+
+#[test]
+fn logarithms(rt: HostRuntime) {
+    assert_eq!(rt; log(0), 0);
+    assert_eq!(rt; exp(u32::MAX), 1);
+    for a in 1..=255u8 {
+        for b in 1..=255u8 {
+            assert_eq!(rt; exp(u32::from(log(a)) + u32::from(log(b))), mul(a, b));
         }
     }
 }

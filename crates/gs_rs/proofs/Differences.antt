@@ -4,6 +4,7 @@ use Rattle.std.specs.List.{All, AllPairs, remove}
 use Rattle.std.proofs.lemmas.Bool.{cases_eq, eq-eqb, ne_eqb}
 use Rattle.std.proofs.lemmas.List.Elements.{All-head, All-tail, All-append, All-take, All-drop}
 use Rattle.std.proofs.lemmas.List.{get_or-take, get_or-drop, get_or_default, length-take, length-drop, drop_more, drop_all}
+use Rattle.std.specs.Int.Bits.{xor_self}
 use mir.Val.{Fits}
 use mir.Syntax.{w8}
 use Rattle.gs_gf256.specs.Field.{IsByte, product, quotient}
@@ -23,6 +24,17 @@ factor_same y x e = rw (eq-eqb y x e) refl
 
 pub factor_other : (y x : ℕ) → y ≢ x → factor y x ≡ bit_xor x y
 factor_other y x ne = rw (ne_eqb y x ne) refl
+
+-- a factor by the difference, which is 0 at the point itself
+pub factor_by_difference : (y x : ℕ) → cond (eqb (bit_xor x y) 0) 1 (bit_xor x y) ≡ factor y x
+factor_by_difference y x = elim (cases_eq y x) [
+  | inl same ↦
+      let none : bit_xor x y ≡ 0 = ap (bit_xor x) same ∙ xor_self x in
+      rw (eq-eqb (bit_xor x y) 0 none) (sym (factor_same y x same))
+  | inr other ↦
+      let some : bit_xor x y ≢ 0 = xor-ne-zero x y (λ q. other (sym q)) in
+      rw (ne_eqb (bit_xor x y) 0 some) (sym (factor_other y x other))
+]
 
 pub IsByte-factor : (y x : ℕ) → IsByte y → IsByte x → IsByte (factor y x)
 IsByte-factor y x hy hx = elim (cases_eq y x) [

@@ -17,9 +17,9 @@
 //! for L absent data shards, and none where L is 0: both write shards in groups of four or two, which
 //! share one reading of the others (`gs_gf256::sum_four`, `sum_two`), and the last of an odd number, or
 //! shards shorter than a block of 32 bytes, one by one (`gs_gf256::mul_add`). Before that `restore` finds
-//! the weights, free of `len`: what belongs to a present shard is found once a block, in at most
-//! 2 * D * D products of bytes and D inverses, and each absent data shard takes at most 4 * D products
-//! and D + 1 inverses more.
+//! the weights, free of `len`: what belongs to a present shard is found once a block, by sums of at most
+//! 2 * D * D logarithms, and each absent data shard takes at most 2 * D logarithms, 2 * D products and
+//! D + 1 inverses more.
 #![tactic(auto)]
 
 mod code;

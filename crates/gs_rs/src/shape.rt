@@ -6,9 +6,7 @@ ghost use Rattle.std.specs.Prelude.{
   ◌<◌,
   ◌≤◌,
   take,
-  if◌then◌else◌,
-  ◌==◌,
-  bit_xor,
+  length,
 };
 ghost use Rattle.gs_rs.specs.Shape.{
   IsCode,
@@ -20,7 +18,7 @@ ghost use Rattle.gs_rs.specs.Shape.{
   differences,
 };
 
-use gs_gf256::{inv, mul};
+use gs_gf256::{exp, inv, log};
 
 /// The most shards that a block has: each stands at a point of its own, a byte.
 pub const MAX_SHARDS: usize = 255;
@@ -76,22 +74,20 @@ impl CodeShape {
         }
     }
 
-    /// What a polynomial's value at a point is divided by.
-    pub(crate) fn denominator(&self, x: u8) -> u8
+    /// What a polynomial's value at a point is divided by, by the points of the data shards.
+    pub(crate) fn denominator(&self, own: &[u8], x: u8) -> u8
         requires code { IsCode self.now }
+        requires own { own.now ≡ data_points self.now }
         ensures { result ≡ denominator self.now x }
     {
         match self.form {
-            Form::Video => {
-                let points = self.data_points();
-                differences(&points[..self.data], x)
-            }
+            Form::Video => differences(own, x),
             Form::Audio => 1,
         }
     }
 
     /// The points of the data shards.
-    fn data_points(&self) -> [u8; MAX_SHARDS]
+    pub(crate) fn data_points(&self) -> [u8; MAX_SHARDS]
         requires code { IsCode self.now }
         ensures { take self.now.data result ≡ data_points self.now }
     {
@@ -103,28 +99,15 @@ impl CodeShape {
     }
 }
 
-/// The product of `x xor y` over the points y other than x. It is made as two products, so that one
-/// doesn't wait for the other.
+/// The product of `x xor y` over the points y other than x: the sum of their logarithms, and of 0 for x
+/// itself, so that no factor waits for the one before it.
 pub(crate) fn differences(points: &[u8], x: u8) -> u8
+    requires { length points.now ≤ 255 }
     ensures { result ≡ differences points.now x }
 {
-    let mut even = 1;
-    let mut odd = 1;
-    let mut at = 0;
-    'pair: while points.len() - at >= 2 {
-        even = mul(even, difference(points[at], x));
-        odd = mul(odd, difference(points[at + 1], x));
-        at += 2;
+    let mut exponent = 0;
+    for y in points {
+        exponent += u32::from(log(x ^ *y));
     }
-    if at < points.len() {
-        even = mul(even, difference(points[at], x));
-    }
-    mul(even, odd)
-}
-
-/// The factor that a point y has in the product of the differences.
-fn difference(y: u8, x: u8) -> u8
-    ensures { result ≡ (if y == x then 1 else bit_xor x y) }
-{
-    if y == x { 1 } else { x ^ y }
+    exp(exponent)
 }

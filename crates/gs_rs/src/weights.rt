@@ -44,9 +44,14 @@ impl CodeShape {
     {
         let points = self.points_of(chosen);
         let points = &points[..self.data];
+        let own = self.data_points();
+        let own = &own[..self.data];
         let mut factors = [0; MAX_SHARDS];
         for (i, point) in points.iter().enumerate() {
-            factors[i] = mul(self.denominator(*point), inv(differences(points, *point)));
+            factors[i] = mul(
+                self.denominator(own, *point),
+                inv(differences(points, *point)),
+            );
         }
         factors
     }
@@ -63,8 +68,12 @@ impl CodeShape {
     {
         let points = self.points_of(chosen);
         let points = &points[..self.data];
+        let own = self.data_points();
         let x = self.point(to);
-        let common = mul(differences(points, x), inv(self.denominator(x)));
+        let common = mul(
+            differences(points, x),
+            inv(self.denominator(&own[..self.data], x)),
+        );
         let mut weights = [0; MAX_SHARDS];
         for (i, point) in points.iter().enumerate() {
             weights[i] = mul(mul(common, factors[i]), inv(x ^ *point));
