@@ -1,5 +1,6 @@
 -- What counts with one more shard taken, and what it plays.
-use Rattle.std.proofs.Common.{◌≡◌, ◌<◌, ◌≤◌, ◌+◌, ◌*◌, ℕ, Bool, true, false, ◌&&◌, not, cond, List, [], ◌∷◌, length, map, Option, Some, None, refl, sym, ap, subst, ◌∙◌, arith, inl, inr}
+use Rattle.std.proofs.Common.{◌≡◌, ◌<◌, ◌≤◌, ◌+◌, ◌*◌, ℕ, Bool, true, false, ◌&&◌, not, cond, List, [], ◌∷◌, length, map, Option, Some, None, refl, sym, ap}
+use Rattle.std.proofs.Common.{subst, ◌∙◌, arith, inl, inr}
 use Rattle.std.specs.Prelude.{◌==◌, nat_lt}
 use Rattle.std.specs.List.{filter}
 use Rattle.std.proofs.lemmas.Bool.{cases_lt, cond-true, cond-false, eq-eqb, ne_eqb, lt-ltb, le-ltb, ltb-true, eqb-true, and_left, and_parts, not-true}
@@ -10,7 +11,8 @@ use Rattle.gs_audio.specs.declared.queue.Plays.{Plays}
 use Rattle.gs_audio.specs.declared.queue.Plays.TheVariants.{Nothing, Left, Whole}
 use Rattle.gs_audio.specs.declared.room.Room.{Room}
 use Rattle.gs_audio.specs.Received.{AudioShard, shards_of_block}
-use Rattle.gs_audio.specs.Played.{PlayedUnit, greater_block, greatest_block, is_left, is_held, is_counted, counting, held_units, whole_units, played_of_left, played_of_joined, played_behind}
+use Rattle.gs_audio.specs.Played.{PlayedUnit, greater_block, greatest_block, is_left, is_held, is_counted, counting, held_units, whole_units, played_of_left}
+use Rattle.gs_audio.specs.Played.{played_of_joined, played_behind}
 use Rattle.gs_audio.specs.Holding.{HoldsShards, room_units}
 use Rattle.gs_audio.specs.Standing.{IsStanding, AreUnitsIn, PlaysUnits, left_plays}
 use Rattle.gs_audio.specs.Steps.{is_above, TakesShard}

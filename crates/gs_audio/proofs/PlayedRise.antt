@@ -1,8 +1,10 @@
 -- The numbers of the units that are played rise.
-use Rattle.std.proofs.Common.{◌≡◌, ◌<◌, ◌≤◌, ◌+◌, ◌*◌, ℕ, zero, suc, Bool, true, false, ◌&&◌, not, List, [], ◌∷◌, ◌++◌, length, map, Option, Some, None, inl, inr, refl, sym, ap, subst, ◌∙◌, arith}
+use Rattle.std.proofs.Common.{◌≡◌, ◌<◌, ◌≤◌, ◌+◌, ◌*◌, ℕ, zero, suc, Bool, true, false, ◌&&◌, not, List, [], ◌∷◌, ◌++◌, length, map, Option, Some, None, inl}
+use Rattle.std.proofs.Common.{inr, refl, sym, ap, subst, ◌∙◌, arith}
 use Rattle.std.specs.Prelude.{◌==◌, nat_lt}
 use Rattle.std.specs.List.{All, find, range_with_len, filter_map, cons_option}
-use Rattle.std.proofs.lemmas.Bool.{cases_Bool, cases_lt, cond-true, cond-false, eqb-true, ltb-true, ltb-false, lt-ltb, le-ltb, and_parts, and_left, and_right, and_from, not-true}
+use Rattle.std.proofs.lemmas.Bool.{cases_Bool, cases_lt, cond-true, cond-false, eqb-true, ltb-true, ltb-false, lt-ltb, le-ltb, and_parts, and_left, and_right}
+use Rattle.std.proofs.lemmas.Bool.{and_from, not-true}
 use Rattle.std.proofs.lemmas.List.{append-nil}
 use Rattle.std.proofs.lemmas.List.Elements.{All-nil, All-cons, All-head, All-tail, All-append, All-weaker}
 use Rattle.std.proofs.lemmas.List.Kept.{AllPairs-cons}
@@ -11,7 +13,8 @@ use Rattle.gs_rs.specs.Shape.{audio_code}
 use Rattle.gs_rs.specs.Shards.{HeldShard, block_shard}
 use Rattle.gs_rtp.specs.Stream.{StreamSettings}
 use Rattle.gs_audio.specs.Received.{AudioShard, shards_of_block, taken_audio}
-use Rattle.gs_audio.specs.Played.{PlayedUnit, greater_block, greatest_block, is_held, is_counted, counting, unit_number, whole_units, unit_at, held_units, played_of_left, played_of_joined, played_behind}
+use Rattle.gs_audio.specs.Played.{PlayedUnit, greater_block, greatest_block, is_held, is_counted, counting, unit_number, whole_units, unit_at, held_units}
+use Rattle.gs_audio.specs.Played.{played_of_left, played_of_joined, played_behind}
 use Rattle.gs_audio.specs.PlayedLaws.{HaveRisingNumbers, PlayedUnitsRise}
 use Rattle.gs_audio.proofs.Counting.{greatest-within, of_same, counting-more, counting-same}
 use Rattle.gs_audio.proofs.PlayedSent.{by_taken, played-by_taken}
@@ -232,7 +235,8 @@ all-played s (r ∷ x ∷ xs) g e =
     let is = all-played s (x ∷ xs) before refl in
     let Played : ℕ → Type 0 = λ n. IsPlayed s (r ∷ x ∷ xs) n in
     elim (cases_lt before r.block) [
-      | inl above ↦ subst Played (same_Some r.block g (ap (λ (n : ℕ). Some n) (sym (cond-true (nat_lt before r.block) r.block before (lt-ltb before r.block above))) ∙ e))
+      | inl above ↦
+          subst Played (same_Some r.block g (ap (λ (n : ℕ). Some n) (sym (cond-true (nat_lt before r.block) r.block before (lt-ltb before r.block above))) ∙ e))
           (above-played s r (x ∷ xs) before refl above is)
       | inr within ↦ subst Played (same_Some before g (ap (λ (n : ℕ). Some n) (sym (greatest-within r.block before within)) ∙ e))
           (within-played s r (x ∷ xs) before refl within is)

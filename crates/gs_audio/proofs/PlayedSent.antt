@@ -1,5 +1,6 @@
 -- The units that are played of a sender's datagrams are its units.
-use Rattle.std.proofs.Common.{◌≡◌, ◌≢◌, ◌<◌, ◌≤◌, ◌+◌, ◌-◌, ◌*◌, ℕ, zero, suc, Bool, true, ◌&&◌, not, List, [], ◌∷◌, ◌++◌, length, get_or, take, drop, map, Option, Some, None, inl, inr, refl, sym, ap, subst, ◌∙◌, arith}
+use Rattle.std.proofs.Common.{◌≡◌, ◌≢◌, ◌<◌, ◌≤◌, ◌+◌, ◌-◌, ◌*◌, ℕ, zero, suc, Bool, true, ◌&&◌, not, List, [], ◌∷◌, ◌++◌, length, get_or, take, drop, map}
+use Rattle.std.proofs.Common.{Option, Some, None, inl, inr, refl, sym, ap, subst, ◌∙◌, arith}
 use Rattle.std.specs.Prelude.{◌==◌, nat_lt}
 use Rattle.std.specs.List.{All, AllPairs, find, slice_get, range_with_len, cons_option}
 use Rattle.std.proofs.lemmas.Bool.{cases_Bool, cases_lt, cond-true, cond-false, cond_both, eqb-true, ltb-true, and_parts, not-true}
@@ -20,7 +21,8 @@ use Rattle.gs_rtp.specs.Stream.{StreamSettings}
 use Rattle.gs_rtp.specs.Audio.{ReadsBackAudio}
 use Rattle.gs_rtp.specs.AudioDatagrams.{units_of_block}
 use Rattle.gs_audio.specs.Received.{AudioShard, shards_of_block, received_audio, taken_audio}
-use Rattle.gs_audio.specs.Played.{PlayedUnit, greatest_block, is_left, is_held, is_counted, counting, unit_number, whole_units, unit_at, held_units, played_of_left, played_of_joined, played_behind, played}
+use Rattle.gs_audio.specs.Played.{PlayedUnit, greatest_block, is_left, is_held, is_counted, counting, unit_number, whole_units, unit_at, held_units}
+use Rattle.gs_audio.specs.Played.{played_of_left, played_of_joined, played_behind, played}
 use Rattle.gs_audio.specs.Places.{AreShards}
 use Rattle.gs_audio.specs.PlayedLaws.{AreSessionUnits, IsUnitOf, PlayedUnitsWereSent}
 use Rattle.gs_audio.proofs.Counting.{of_other, of_same}

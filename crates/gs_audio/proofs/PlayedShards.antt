@@ -1,5 +1,6 @@
 -- What is taken of the datagrams of some units: units, and parity shards of blocks that are whole.
-use Rattle.std.proofs.Common.{◌≡◌, ◌≢◌, ◌<◌, ◌≤◌, ◌+◌, ◌-◌, ◌*◌, ◌/◌, ◌%◌, ℕ, zero, suc, true, false, cond, List, [], ◌∷◌, ◌++◌, length, drop, Option, Some, None, ◌⊎◌, inl, inr, refl, sym, ap, subst, ◌∙◌, arith}
+use Rattle.std.proofs.Common.{◌≡◌, ◌≢◌, ◌<◌, ◌≤◌, ◌+◌, ◌-◌, ◌*◌, ◌/◌, ◌%◌, ℕ, zero, suc, true, false, cond, List, [], ◌∷◌, ◌++◌, length, drop, Option, Some}
+use Rattle.std.proofs.Common.{None, ◌⊎◌, inl, inr, refl, sym, ap, subst, ◌∙◌, arith}
 use Rattle.std.specs.Prelude.{◌==◌}
 use Rattle.std.specs.List.{All, Contains, slice_get, flat_map, filter_map, cons_option, range_with_len}
 use Rattle.std.proofs.lemmas.Bool.{cases_eq, cond-true, cond-false, eq-eqb, ne_eqb}
@@ -81,7 +82,8 @@ takes-none : (s : StreamSettings) (units : List (List ℕ)) (bytes : List ℕ) �
 takes-none s units bytes none r e = absurd (none-some r (sym none ∙ e))
 
 -- a unit's own
-unit-taken : ReadsBackAudio → (s : StreamSettings) (units : List (List ℕ)) (n : ℕ) → AreSettingsWithinLimits s → AreSessionUnits s units → s.audio ≢ 0 → n < length units
+unit-taken : ReadsBackAudio → (s : StreamSettings) (units : List (List ℕ)) (n : ℕ) → AreSettingsWithinLimits s → AreSessionUnits s units → s.audio ≢ 0
+    → n < length units
     → Takes s units (unit_datagram s units n)
 unit-taken reads s units n limits are some h =
     let few = are.few in
@@ -124,7 +126,8 @@ All-range P f a zero each = All-nil P
 All-range P f a (suc n) each =
     All-append P (f a) (flat_map f (range_with_len (a + 1) n)) (each a (omega arith)) (All-range P f (a + 1) n (λ i h. each i (omega arith)))
 
-of-unit : ReadsBackAudio → (s : StreamSettings) (units : List (List ℕ)) (n : ℕ) → AreSettingsWithinLimits s → AreSessionUnits s units → s.audio ≢ 0 → n < length units
+of-unit : ReadsBackAudio → (s : StreamSettings) (units : List (List ℕ)) (n : ℕ) → AreSettingsWithinLimits s → AreSessionUnits s units → s.audio ≢ 0
+    → n < length units
     → All (Takes s units) (unit_datagrams s units n)
 of-unit reads s units n limits are some h =
     let P : List ℕ → Type 0 = Takes s units in
@@ -158,7 +161,8 @@ All-filter_map {X} {Y} g P (x ∷ xs) all =
     onto (Some y) h rest = All-cons P y (filter_map g xs) (h y refl) rest
 
 -- so is each that is taken of what came
-pub taken-of : ReadsBackAudio → (s : StreamSettings) (units came : List (List ℕ)) → AreSettingsWithinLimits s → AreSessionUnits s units → AreOfUnits s units came
+pub taken-of : ReadsBackAudio → (s : StreamSettings) (units came : List (List ℕ)) → AreSettingsWithinLimits s → AreSessionUnits s units
+    → AreOfUnits s units came
     → All (IsTakenOf s.audio units) (taken_audio s came)
 taken-of reads s units came limits are of =
     All-filter_map (received_audio s) (IsTakenOf s.audio units) came

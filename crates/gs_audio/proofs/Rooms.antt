@@ -1,5 +1,6 @@
 -- A room with one more shard, and the units that stand in it.
-use Rattle.std.proofs.Common.{◌≡◌, ◌≢◌, ◌<◌, ◌+◌, ◌*◌, ℕ, suc, Bool, true, false, ◌||◌, cond, List, [], ◌∷◌, length, get_or, set, map, Option, Some, None, refl, sym, ap, ◌∙◌, arith, inl, inr}
+use Rattle.std.proofs.Common.{◌≡◌, ◌≢◌, ◌<◌, ◌+◌, ◌*◌, ℕ, suc, Bool, true, false, ◌||◌, cond, List, [], ◌∷◌, length, get_or, set, map, Option, Some, None, refl}
+use Rattle.std.proofs.Common.{sym, ap, ◌∙◌, arith, inl, inr}
 use Rattle.std.specs.Prelude.{◌==◌}
 use Rattle.std.specs.Borrow.{Bor}
 use Rattle.std.specs.Option.{option_copied, option_map}
@@ -111,7 +112,8 @@ whole-listed room held block holds full =
     listed-some (block * 4) (unit_number block 0) (at 0) (block_shard audio_code room.size held 0) _ _ (omega arith) (is 0 (omega arith))
     (listed-some (suc (block * 4)) (unit_number block 1) (at 1) (block_shard audio_code room.size held 1) _ _ (omega arith) (is 1 (omega arith))
     (listed-some (suc (suc (block * 4))) (unit_number block 2) (at 2) (block_shard audio_code room.size held 2) _ _ (omega arith) (is 2 (omega arith))
-    (listed-some (suc (suc (suc (block * 4)))) (unit_number block 3) (at 3) (block_shard audio_code room.size held 3) [] [] (omega arith) (is 3 (omega arith)) refl)))
+    (listed-some (suc (suc (suc (block * 4)))) (unit_number block 3) (at 3) (block_shard audio_code room.size held 3) [] [] (omega arith) (is 3 (omega arith))
+    refl)))
 
 -- those that are held
 held-listed : (room : Room) (held : List HeldShard) (block : ℕ) → HoldsShards room held → length held < 4

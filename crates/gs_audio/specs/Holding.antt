@@ -1,5 +1,6 @@
 -- What a room holds of the shards that count of its block.
-use Rattle.std.specs.Prelude.{ℕ, ◌≡◌, ◌<◌, Bool, true, false, ◌||◌, List, length, slice_index_or, Option, Some, None, ◌==◌, if◌then◌else◌}
+use Rattle.std.specs.Prelude.{ℕ, ◌≡◌, ◌<◌, Bool, true, false, ◌||◌, List, length, slice_index_or, Option, Some, None}
+use Rattle.std.specs.Prelude.{◌==◌, if◌then◌else◌}
 use Rattle.gs_rs.specs.Codeword.{shard_of}
 use Rattle.gs_rs.specs.Shards.{HeldShard}
 use Rattle.gs_rtp.specs.Audio.{block_units}

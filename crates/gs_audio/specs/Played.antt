@@ -1,6 +1,7 @@
--- Which audio units a client plays, of all the datagrams that came. Every list of what came has the newest member first;
--- what is played stands in its order.
-use Rattle.std.specs.Prelude.{ℕ, ◌+◌, ◌*◌, Bool, false, ◌&&◌, not, List, [], ◌∷◌, ◌++◌, length, map, Option, Some, None, nat_lt, ◌==◌, if◌then◌else◌}
+-- Which audio units a client plays, of all the datagrams that came. Every list of what came has the newest member
+-- first; what is played stands in its order.
+use Rattle.std.specs.Prelude.{ℕ, ◌+◌, ◌*◌, Bool, false, ◌&&◌, not, List, [], ◌∷◌, ◌++◌, length, map, Option, Some, None}
+use Rattle.std.specs.Prelude.{nat_lt, ◌==◌, if◌then◌else◌}
 use Rattle.std.specs.List.{filter_map, find, list_any, range_with_len}
 use Rattle.gs_rs.specs.Shape.{audio_code}
 use Rattle.gs_rs.specs.Shards.{HeldShard, block_shard}
@@ -26,8 +27,8 @@ is_left block (Some greatest) = nat_lt block greatest
 abbrev pub is_held : ℕ → List HeldShard → Bool
 is_held index held = list_any (λ s. s.index == index) held
 
--- A shard counts, behind those taken before it and those of its block that are held: its block isn't left, it isn't held,
--- and fewer shards are held than a block has units.
+-- A shard counts, behind those taken before it and those of its block that are held: its block isn't left, it isn't
+-- held, and fewer shards are held than a block has units.
 abbrev pub is_counted : AudioShard → Option ℕ → List HeldShard → Bool
 is_counted r greatest held =
     not (is_left r.block greatest) && not (is_held r.shard.index held) && nat_lt (length held) block_units

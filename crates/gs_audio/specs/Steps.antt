@@ -1,5 +1,6 @@
 -- What the steps of a room and of a queue do.
-use Rattle.std.specs.Prelude.{ℕ, ◌≡◌, ◌≢◌, ◌+◌, Bool, true, List, ◌∷◌, slice_set, Option, Some, None, ◌==◌, if◌then◌else◌, nat_lt}
+use Rattle.std.specs.Prelude.{ℕ, ◌≡◌, ◌≢◌, ◌+◌, Bool, true, List, ◌∷◌, slice_set, Option, Some, None, ◌==◌}
+use Rattle.std.specs.Prelude.{if◌then◌else◌, nat_lt}
 use Rattle.gs_rtp.specs.Stream.{StreamSettings}
 use Rattle.gs_rtp.specs.declared.audio.AudioHead.{AudioHead}
 use Rattle.gs_audio.specs.declared.room.Room.{Room}

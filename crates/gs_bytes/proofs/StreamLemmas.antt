@@ -1,5 +1,6 @@
 -- Lemmas on what is read and written in several calls.
-use Rattle.std.proofs.Common.{◌≡◌, ◌≢◌, ℕ, zero, suc, ◌+◌, ◌-◌, ◌≤◌, Bool, Option, None, Some, Result, Ok, Err, OnErr, List, ◌++◌, length, take, drop, length-drop, length-take-le, take-append-drop, refl, sym, ap, ◌∙◌, arith}
+use Rattle.std.proofs.Common.{◌≡◌, ◌≢◌, ℕ, zero, suc, ◌+◌, ◌-◌, ◌≤◌, Bool, Option, None, Some, Result, Ok, Err, OnErr, List, ◌++◌, length, take, drop}
+use Rattle.std.proofs.Common.{length-drop, length-take-le, take-append-drop, refl, sym, ap, ◌∙◌, arith}
 use Rattle.std.proofs.lemmas.List.{drop-drop, take_all, take_at}
 use lib.Seq.{take-add}
 use Rattle.gs_bytes.specs.Outside.{IsCountedWrite, KeepsFlag}

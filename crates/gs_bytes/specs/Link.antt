@@ -1,6 +1,7 @@
 -- What the calls of a link do to the list of what happened on it, where that is told, to the datagrams that wait, and
 -- to the count of faults.
-use Rattle.std.specs.Prelude.{◌≡◌, ◌≤◌, ℕ, Bool, true, false, if◌then◌else◌, List, [], ◌∷◌, ◌++◌, ◌-◌, length, slice_get, take, Option, None, Some, Result, Ok, Err, ⊤}
+use Rattle.std.specs.Prelude.{◌≡◌, ◌≤◌, ℕ, Bool, true, false, if◌then◌else◌, List, [], ◌∷◌, ◌++◌, ◌-◌, length}
+use Rattle.std.specs.Prelude.{slice_get, take, Option, None, Some, Result, Ok, Err, ⊤}
 use Rattle.gs_bytes.specs.declared.failed.Failed.{Failed}
 use Rattle.gs_bytes.specs.declared.failed.Failed.TheVariants.{Fault, NoMemory}
 use Rattle.gs_bytes.specs.declared.addr.Addr.{Addr}
@@ -52,7 +53,8 @@ TakesDatagram (Some before) now from bytes = Tells now (before ++ Took from byte
 
 -- what was taken is the last entry
 abbrev pub Takes : Option (List LinkEntry) → Option (List LinkEntry) → Result Arrived Failed → List ℕ → Type 0
-Takes before now (Ok (arrived.Datagram from size)) into = (size ≤ length into) × TakesDatagram before now from (take size into)
+Takes before now (Ok (arrived.Datagram from size)) into = (size ≤ length into)
+    × TakesDatagram before now from (take size into)
 Takes None now (Ok arrived.Nothing) into = ⊤
 Takes (Some before) now (Ok arrived.Nothing) into = Tells now (with_nothing before)
 Takes before now (Err e) into = KeepsEntries before now
@@ -111,4 +113,5 @@ abbrev pub AnswersTake : LinkState → LinkState → Arrived → List ℕ → Ty
 AnswersTake old new (arrived.Datagram from size) into =
     (size ≤ length into) × (new.entries ≡ old.entries ++ Took from (take size into) ∷ [])
     × (old.waiting ≡ record { from = from; bytes = take size into } ∷ new.waiting)
-AnswersTake old new arrived.Nothing into = (old.waiting ≡ []) × (new ≡ record old { entries = with_nothing old.entries })
+AnswersTake old new arrived.Nothing into = (old.waiting ≡ [])
+    × (new ≡ record old { entries = with_nothing old.entries })

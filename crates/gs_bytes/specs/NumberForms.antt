@@ -1,5 +1,6 @@
 -- Cited by private contracts alone: what a number's reader tests on its way.
-use Rattle.std.specs.Prelude.{◌≡◌, ℕ, suc, ℤ, pos, negsuc, ◌<◌, ◌^◌, ◌==◌, ◌&&◌, ◌||◌, not, nat_le, Bool, List, length, slice_index}
+use Rattle.std.specs.Prelude.{◌≡◌, ℕ, suc, ℤ, pos, negsuc, ◌<◌, ◌^◌, ◌==◌, ◌&&◌, ◌||◌, not, nat_le, Bool, List, length}
+use Rattle.std.specs.Prelude.{slice_index}
 
 -- the first byte is a digit, and the only one if it is '0'
 abbrev pub begins_plainly : List ℕ → Bool

@@ -1,6 +1,7 @@
 -- What the calls of an object of the outside do to its count of faults and to its end. What was
 -- read, written and is left is said by std's words on bytes that may be unknown.
-use Rattle.std.specs.Prelude.{◌≡◌, ◌<◌, List, length, take, ℕ, zero, suc, ◌+◌, ◌-◌, ◌^◌, ◌≤◌, min, Bool, true, Option, None, Some, Result, Ok, Err, ⊤}
+use Rattle.std.specs.Prelude.{◌≡◌, ◌<◌, List, length, take, ℕ, zero, suc, ◌+◌, ◌-◌, ◌^◌, ◌≤◌, min, Bool, true, Option}
+use Rattle.std.specs.Prelude.{None, Some, Result, Ok, Err, ⊤}
 use Rattle.std.specs.Io.KnownBytes.{Appends}
 use Rattle.gs_bytes.specs.declared.failed.Failed.{Failed}
 use Rattle.gs_bytes.specs.declared.failed.Failed.TheVariants.{Fault, NoMemory}

@@ -1,5 +1,6 @@
 -- What a client owes its host, and which of it goes to its side of the connection.
-use Rattle.std.specs.Prelude.{ℕ, suc, pos, ◌≡◌, ◌<◌, Bool, true, false, List, [], ◌∷◌, take, drop, Result, Ok, Err, ◌⊎◌, if◌then◌else◌}
+use Rattle.std.specs.Prelude.{ℕ, suc, pos, ◌≡◌, ◌<◌, Bool, true, false, List, [], ◌∷◌, take, drop, Result, Ok, Err, ◌⊎◌}
+use Rattle.std.specs.Prelude.{if◌then◌else◌}
 use Rattle.gs_bytes.specs.declared.out_of_memory.OutOfMemory.{OutOfMemory}
 use Rattle.gs_control.specs.declared.message.Message.{Message}
 use Rattle.gs_control.specs.declared.message.Message.TheVariants.{Invalidate, IdrRequest}

@@ -1,5 +1,6 @@
 -- What a client's end stands for behind each call.
-use Rattle.std.proofs.Common.{◌≡◌, ◌+◌, ◌-◌, ℕ, suc, Bool, true, false, not, ◌&&◌, ◌||◌, List, [], ◌∷◌, ◌++◌, length, take, drop, Ok, Err, refl, sym, ap, subst, ◌∙◌, arith}
+use Rattle.std.proofs.Common.{◌≡◌, ◌+◌, ◌-◌, ℕ, suc, Bool, true, false, not, ◌&&◌, ◌||◌, List, [], ◌∷◌, ◌++◌, length, take, drop, Ok, Err, refl, sym, ap, subst}
+use Rattle.std.proofs.Common.{◌∙◌, arith}
 use Rattle.std.specs.Prelude.{nat_lt, if◌then◌else◌}
 use Rattle.std.specs.List.{flat_map}
 use Rattle.std.proofs.Math.Seq.{take-append_seam}
@@ -107,7 +108,8 @@ message_given old new session channel number bytes part most r h most_is same se
     let able = and_parts (is_open part.client.peer.state) (not (is_full part.client.peer channel)) sends.0 in
     by able.0 (not_false (is_full part.client.peer channel) able.1) most most_is
   where
-    by : is_open part.client.peer.state ≡ true → is_full part.client.peer channel ≡ false → (most : Bool) → most ≡ has_made_most channel part → GivesMessage session channel bytes part (not most) new r r
+    by : is_open part.client.peer.state ≡ true → is_full part.client.peer channel ≡ false → (most : Bool) → most ≡ has_made_most channel part
+        → GivesMessage session channel bytes part (not most) new r r
     by open' room true is = (
       neither_holds (is_client_open part) (is_full part.client.peer channel) (not (has_made_most channel part)) room (ap not (sym is)),
       refl,

@@ -15,7 +15,8 @@ use Rattle.gs_report.specs.Reporting.{Reporting, Did}
 use Rattle.gs_client_end.specs.declared.end.ClientEnd.{ClientEnd}
 use Rattle.gs_client_end.specs.Standing.{StandsFor}
 
--- It was done exactly where it is allowed. Where it is not, nothing is reported (and nothing is said of the end any more).
+-- It was done exactly where it is allowed. Where it is not, nothing is reported (and nothing is said of the end any
+-- more).
 abbrev pub DoneIf : Bool → ℕ → Acted Part → Bool → ClientEnd → Reporting → Reporting → Type 0
 DoneIf allowed session did true new before now = (allowed ≡ true) × Did (StandsFor new session) did before now
 DoneIf allowed session did false new before now = (allowed ≡ false) × (now ≡ before)

@@ -1,5 +1,6 @@
 -- Cited by private contracts alone: what the steps of a call leave.
-use Rattle.std.specs.Prelude.{ℕ, ◌≡◌, ◌+◌, ◌++◌, Bool, true, false, not, ◌&&◌, List, [], ◌∷◌, length, map, Option, Some, None, is_some}
+use Rattle.std.specs.Prelude.{ℕ, ◌≡◌, ◌+◌, ◌++◌, Bool, true, false, not, ◌&&◌, List, [], ◌∷◌, length, map, Option, Some}
+use Rattle.std.specs.Prelude.{None, is_some}
 use Rattle.gs_frames.specs.declared.range.Range.{Range}
 use Rattle.gs_frames.specs.Client.{ClientSettings, Arrival, Datagram}
 use Rattle.gs_frames.specs.Handed.{newly_handed}
@@ -39,7 +40,8 @@ pub record IsTold (session : ℕ) (c : ClientSettings) (came : List Arrival) (so
   pub text : now ≡ with_reports before (reports_of session c came bytes)
 
 -- it asks only where it may
-abbrev pub IsGiven : ℕ → ClientSettings → List Arrival → List (List ℕ) → List ℕ → Bool → Option Told → Client → Reporting
+abbrev pub IsGiven : ℕ → ClientSettings → List Arrival → List (List ℕ) → List ℕ → Bool → Option Told → Client
+    → Reporting
     → Reporting → Type 0
 IsGiven session c came sound bytes may_ask None new before now =
     ((is_some (newly_asked c (Datagram bytes) came) && not may_ask) ≡ true) × (now ≡ before)

@@ -1,12 +1,14 @@
 -- Messages of the control stream: a type (2 bytes, the lowest first) and a payload.
-use Rattle.std.specs.Prelude.{◌≡◌, ◌≢◌, ℕ, ◌≤◌, ◌<◌, ◌^◌, List, [], ◌∷◌, ◌++◌, drop, length, nat_lt, if◌then◌else◌, replicate, FitsSigned, ⊤}
+use Rattle.std.specs.Prelude.{◌≡◌, ◌≢◌, ℕ, ◌≤◌, ◌<◌, ◌^◌, List, [], ◌∷◌, ◌++◌, drop, length, nat_lt, if◌then◌else◌}
+use Rattle.std.specs.Prelude.{replicate, FitsSigned, ⊤}
 use Rattle.std.specs.Int.{w64, cast_signed, cast_unsigned}
 use Rattle.std.specs.List.{AllByRecursion}
 use Rattle.gs_bytes.specs.Field.{big_from, little_from, big_bytes, little_bytes}
 use Rattle.gs_input.specs.Event.{HasButton, IsEvent, IsKnown}
 use Rattle.gs_input.specs.Packet.{IsPacket, packet_of}
 use Rattle.gs_control.specs.declared.message.Message.{Message}
-use Rattle.gs_control.specs.declared.message.Message.TheVariants.{StartA, StartB, Invalidate, LossStats, Input, Rumble, Termination, Ping, IdrRequest, Other}
+use Rattle.gs_control.specs.declared.message.Message.TheVariants.{StartA, StartB, Invalidate, LossStats, Input, Rumble}
+use Rattle.gs_control.specs.declared.message.Message.TheVariants.{Termination, Ping, IdrRequest, Other}
 
 -- the type of a message
 abbrev pub message_kind : Message → ℕ

@@ -1,5 +1,6 @@
 -- Datagrams that aren't of a greater frame, and what all that was handed with one arrival is.
-use Rattle.std.proofs.Common.{◌≡◌, ◌≢◌, ◌<◌, ◌≤◌, ◌+◌, ◌-◌, ℕ, suc, Bool, true, false, ◌||◌, List, [], ◌∷◌, ◌++◌, Option, Some, None, refl, sym, ap, subst, ◌∙◌, arith, inl, inr}
+use Rattle.std.proofs.Common.{◌≡◌, ◌≢◌, ◌<◌, ◌≤◌, ◌+◌, ◌-◌, ℕ, suc, Bool, true, false, ◌||◌, List, [], ◌∷◌, ◌++◌, Option, Some, None, refl, sym, ap, subst, ◌∙◌}
+use Rattle.std.proofs.Common.{arith, inl, inr}
 use Rattle.std.specs.Prelude.{is_some, nat_le, nat_lt}
 use Rattle.std.proofs.lemmas.Bool.{cases_Bool, cases_lt, cond-true, cond-false, ltb-true, ne_eqb}
 use Rattle.std.proofs.lemmas.List.{append_cancel_left}
@@ -18,7 +19,8 @@ use Rattle.gs_fecqueue.specs.declared.moved.Moved.{Moved}
 use Rattle.gs_fecqueue.specs.Moves.{moved_to, moved_of}
 use Rattle.gs_depack.specs.declared.depack.Depack.{Depack}
 use Rattle.gs_depack.specs.Depack.{noted_kind, Handing, StandsFor}
-use Rattle.gs_depack.specs.Laws.{DatagramChangesNothing, DatagramCompletesFrame, NothingToNote, HandedSinceIsNewlyHanded, StandingKeepsNumbers, MovesOn, QueueTellsMoves}
+use Rattle.gs_depack.specs.Laws.{DatagramChangesNothing, DatagramCompletesFrame, NothingToNote, HandedSinceIsNewlyHanded, StandingKeepsNumbers, MovesOn}
+use Rattle.gs_depack.specs.Laws.{QueueTellsMoves}
 use Rattle.gs_depack.proofs.Standing.{settled-is_so, nothing-to_note, front-same}
 use Rattle.gs_depack.proofs.Passing.{next-none}
 

@@ -1,5 +1,6 @@
 -- The head of an image.
-use Rattle.std.proofs.Common.{◌≡◌, ◌≤◌, ◌+◌, ◌-◌, ◌*◌, ◌/◌, ◌%◌, ℕ, Bool, true, false, ◌&&◌, ◌||◌, not, List, length, take, drop, Some, None, refl, sym, ap, subst, ◌∙◌, arith, inl, inr}
+use Rattle.std.proofs.Common.{◌≡◌, ◌≤◌, ◌+◌, ◌-◌, ◌*◌, ◌/◌, ◌%◌, ℕ, Bool, true, false, ◌&&◌, ◌||◌, not, List, length, take, drop, Some, None, refl, sym, ap}
+use Rattle.std.proofs.Common.{subst, ◌∙◌, arith, inl, inr}
 use Rattle.std.specs.Prelude.{slice_index, nat_le, ◌==◌}
 use Rattle.std.proofs.lemmas.Bool.{cond-true, cond-false, and_parts, eqb-true, leb-true}
 use Rattle.std.proofs.Math.Nat.{div-add-mod}
@@ -36,7 +37,8 @@ tests-lengths : (payload all count last : ℕ) (mark kind : Bool)
 tests-lengths payload all count last mark kind e is_count =
     let t8 = and_parts (nat_le 8 payload && all % payload == 0 && nat_le 1 count && nat_le count 4092 && mark && kind && nat_le 1 last && nat_le last payload)
     (not (count == 1) || nat_le 8 last) e in
-    let t7 = and_parts (nat_le 8 payload && all % payload == 0 && nat_le 1 count && nat_le count 4092 && mark && kind && nat_le 1 last) (nat_le last payload) t8.0 in
+    let t7 = and_parts (nat_le 8 payload && all % payload == 0 && nat_le 1 count && nat_le count 4092 && mark && kind
+    && nat_le 1 last) (nat_le last payload) t8.0 in
     let t6 = and_parts (nat_le 8 payload && all % payload == 0 && nat_le 1 count && nat_le count 4092 && mark && kind) (nat_le 1 last) t7.0 in
     let t5 = and_parts (nat_le 8 payload && all % payload == 0 && nat_le 1 count && nat_le count 4092 && mark) kind t6.0 in
     let t4 = and_parts (nat_le 8 payload && all % payload == 0 && nat_le 1 count && nat_le count 4092) mark t5.0 in

@@ -1,5 +1,6 @@
 -- A datagram of a greater frame: what the depack stands for, and the range that it asks for. And datagrams of others, and a reset.
-use Rattle.std.proofs.Common.{◌≡◌, ◌≢◌, ◌<◌, ◌≤◌, ◌+◌, ◌-◌, ◌⊎◌, ℕ, zero, suc, Bool, true, false, ◌&&◌, ◌||◌, not, List, [], ◌∷◌, ◌++◌, Option, Some, None, refl, sym, ap, subst, ◌∙◌, arith, inl, inr}
+use Rattle.std.proofs.Common.{◌≡◌, ◌≢◌, ◌<◌, ◌≤◌, ◌+◌, ◌-◌, ◌⊎◌, ℕ, zero, suc, Bool, true, false, ◌&&◌, ◌||◌, not, List, [], ◌∷◌, ◌++◌, Option, Some, None}
+use Rattle.std.proofs.Common.{refl, sym, ap, subst, ◌∙◌, arith, inl, inr}
 use Rattle.std.specs.Prelude.{is_some, nat_lt, ◌==◌, MatchOption}
 use Rattle.std.specs.List.{All, list_any}
 use Rattle.std.proofs.lemmas.Bool.{cases_Bool, cases_lt, cases_eq, ne_eqb, or_parts, or_left, or_right, both_ways, le-ltb}
@@ -17,7 +18,8 @@ use Rattle.gs_frames.specs.AskLaws.{IsLost, IsLostRange}
 use Rattle.gs_frames.specs.Kept.{kind_if_complete, last_of, is_waiting}
 use Rattle.gs_frames.proofs.Counting.{NoneOf-above, complete-other, complete-none, greatest-new, greatest-kept}
 use Rattle.gs_frames.proofs.Taken.{taken-some}
-use Rattle.gs_frames.proofs.SettledUp.{left-from, left-says, left-not_from, left-not_says, done-same, done-stays, done-above, settled-within, settled-done, settled-unique}
+use Rattle.gs_frames.proofs.SettledUp.{left-from, left-says, left-not_from, left-not_says, done-same, done-stays, done-above, settled-within, settled-done}
+use Rattle.gs_frames.proofs.SettledUp.{settled-unique}
 use Rattle.gs_frames.proofs.HandedThrough.{through-zero, through-same, RisesTo, through-rises}
 use Rattle.gs_frames.proofs.HandedGrows.{handed-is, arrival_hands, reset_hands_nothing}
 use Rattle.gs_frames.proofs.AsksGrow.{arrival_asks_for_lost, arrival_asks_for_nothing}
@@ -92,7 +94,8 @@ advance-kinds d a c came bytes r f window stands is advance above within noting 
           ∙ handing.kinds f above old none ∙ ap kind_if_complete (sym (greater-other c came bytes r f is other))
       | inl new ↦
           advance.newer f new
-          ∙ sym (ap kind_if_complete (greater-none c came bytes r f is (omega (arith, handing.is_greatest)) (omega (arith, different r.head.frame f other within))))
+          ∙ sym (ap kind_if_complete
+          (greater-none c came bytes r f is (omega (arith, handing.is_greatest)) (omega (arith, different r.head.frame f other within))))
     ]
 
 -- the depack after the greatest frame is this one, settled up to s

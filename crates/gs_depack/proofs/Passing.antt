@@ -1,5 +1,6 @@
 -- Passing the settled frames: which is handed next, and what the depack stands for when none waits. And a reset.
-use Rattle.std.proofs.Common.{◌≡◌, ◌≢◌, ◌<◌, ◌≤◌, ◌+◌, ◌-◌, ℕ, zero, suc, Bool, true, false, ◌&&◌, ◌||◌, not, List, [], ◌∷◌, ◌++◌, Option, Some, None, refl, sym, ap, subst, ◌∙◌, arith, inl, inr}
+use Rattle.std.proofs.Common.{◌≡◌, ◌≢◌, ◌<◌, ◌≤◌, ◌+◌, ◌-◌, ℕ, zero, suc, Bool, true, false, ◌&&◌, ◌||◌, not, List, [], ◌∷◌, ◌++◌, Option, Some, None, refl}
+use Rattle.std.proofs.Common.{sym, ap, subst, ◌∙◌, arith, inl, inr}
 use Rattle.std.specs.Prelude.{nat_lt, ◌==◌, AllPairs}
 use Rattle.std.specs.List.{All, list_any}
 use Rattle.std.proofs.lemmas.Bool.{cond-true, cond-false, lt-ltb, le-ltb}
@@ -218,7 +219,8 @@ handed-on d c came unnoted given one is frame same =
       was_settled = omega (arith, stands.was_settled);
     }
 
-pub pass-hands : (d : Depack) (c : ClientSettings) (came : List Arrival) (unnoted : Option ℕ) (given : List Handed) (kind : ℕ) → IsPassing d c came unnoted given
+pub pass-hands : (d : Depack) (c : ClientSettings) (came : List Arrival) (unnoted : Option ℕ) (given : List Handed) (kind : ℕ)
+    → IsPassing d c came unnoted given
     → noted_kind d (suc d.passed) ≡ Some kind → is_handed_next d.last_handed d.waits_for_idr (suc d.passed) kind ≡ true
     → HandsNext (record d { passed = suc d.passed; last_handed = suc d.passed; waits_for_idr = d.waits_for_idr && not (kind == 2) })
     c came unnoted given (suc d.passed)
@@ -301,7 +303,8 @@ reset-stands d c came stands =
         are_given =
             handed-is c now ∙ ap (handed_through c (taken c came) (settled_at_resets c now)) (settled_so ∙ sym stands.all_passed);
         last_given = handing.last_given ∙ ap last_of (sym same);
-        waits = sym (ap (λ (hs : List Handed). is_waiting hs (settled_at_resets c now)) same ∙ ap not (any-none (settled c (taken c came)) (handed c came) under));
+        waits = sym (ap (λ (hs : List Handed). is_waiting hs (settled_at_resets c now)) same
+            ∙ ap not (any-none (settled c (taken c came)) (handed c came) under));
         since = now;
         same_resets = refl;
         was_settled = omega (arith, settled_so, stands.all_passed);

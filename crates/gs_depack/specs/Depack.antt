@@ -1,5 +1,6 @@
 -- What a depack knows of all that its client was given.
-use Rattle.std.specs.Prelude.{ℕ, suc, ◌≡◌, ◌+◌, ◌-◌, ◌%◌, ◌<◌, ◌≤◌, ◌⊎◌, List, [], ◌∷◌, ◌++◌, Option, Some, None, slice_index, ◌==◌, if◌then◌else◌}
+use Rattle.std.specs.Prelude.{ℕ, suc, ◌≡◌, ◌+◌, ◌-◌, ◌%◌, ◌<◌, ◌≤◌, ◌⊎◌, List, [], ◌∷◌, ◌++◌, Option, Some, None}
+use Rattle.std.specs.Prelude.{slice_index, ◌==◌, if◌then◌else◌}
 use Rattle.gs_depack.specs.declared.depack.Depack.{Depack}
 use Rattle.gs_fecqueue.specs.declared.moved.Moved.{Moved}
 use Rattle.gs_frames.specs.Client.{ClientSettings, Arrival, Datagram}

@@ -1,5 +1,6 @@
 -- What a side's acts keep.
-use Rattle.std.proofs.Common.{◌≡◌, ◌≤◌, ◌+◌, ◌-◌, ℕ, zero, suc, Bool, true, false, not, cond, List, [], ◌∷◌, ◌++◌, length, map, drop, Option, Some, None, refl, sym, ap, subst, ◌∙◌, arith, inl, inr}
+use Rattle.std.proofs.Common.{◌≡◌, ◌≤◌, ◌+◌, ◌-◌, ℕ, zero, suc, Bool, true, false, not, cond, List, [], ◌∷◌, ◌++◌, length, map, drop, Option, Some, None, refl}
+use Rattle.std.proofs.Common.{sym, ap, subst, ◌∙◌, arith, inl, inr}
 use Rattle.std.specs.Prelude.{◌==◌, ◌&&◌, nat_lt, nat_le}
 use Rattle.std.specs.List.{filter, find, list_any}
 use Rattle.std.proofs.lemmas.Bool.{and_parts, or_parts, not-true, ltb-true, false≢true}
@@ -10,13 +11,17 @@ use Rattle.gs_enet.specs.declared.event.PeerEvent.TheVariants as event
 use Rattle.gs_enet.specs.declared.state.PeerState.{PeerState}
 use Rattle.gs_enet.specs.declared.state.PeerState.TheVariants as state
 use Rattle.gs_enet.specs.declared.answer.Answer.{Answer}
-use Rattle.gs_enet.specs.Record.{PeerRecord, Unacknowledged, Disconnect, Order, channels, control, datagram_room, last_number, given_on, heard, orders, is_shut, shut, happened, at_moment}
+use Rattle.gs_enet.specs.Record.{PeerRecord, Unacknowledged, Disconnect, Order, channels, control, datagram_room, last_number, given_on, heard, orders, is_shut}
+use Rattle.gs_enet.specs.Record.{shut, happened, at_moment}
 use Rattle.gs_enet.specs.Receive.{leave_if}
-use Rattle.gs_enet.specs.Steps.{next_number, is_full, is_open, can_send, with_message, close_if, closed, telling, told_next, due_again, timed_if, timed, is_lost}
-use Rattle.gs_enet.specs.Write.{Item, Answers, Orders, item_command, due_if, is_due, going_out, fitting, next_items, header_room, written_once, first_written, wrote_next}
+use Rattle.gs_enet.specs.Steps.{next_number, is_full, is_open, can_send, with_message, close_if, closed, telling, told_next, due_again, timed_if, timed}
+use Rattle.gs_enet.specs.Steps.{is_lost}
+use Rattle.gs_enet.specs.Write.{Item, Answers, Orders, item_command, due_if, is_due, going_out, fitting, next_items, header_room, written_once, first_written}
+use Rattle.gs_enet.specs.Write.{wrote_next}
 use Rattle.gs_enet.specs.World.{Written, Side, Act, Send, Close, Tell, Time, Write, sent_if, one_written, acted}
 use Rattle.gs_enet.proofs.Lists.{Each, each_weaker, each_map, each_unmap, each_push, each_append, each_filter, each_drop, each_fails}
-use Rattle.gs_enet.proofs.Kept.{Kept, IsDone, IsOver, IsShut, IsHeld, Has, IsTrueAnswer, IsTrueOrder, AnswersTruly, OrdersOut, AnswersOut, IsNoMessage, count_of}
+use Rattle.gs_enet.proofs.Kept.{Kept, IsDone, IsOver, IsShut, IsHeld, Has, IsTrueAnswer, IsTrueOrder, AnswersTruly, OrdersOut, AnswersOut, IsNoMessage}
+use Rattle.gs_enet.proofs.Kept.{count_of}
 use Rattle.gs_enet.proofs.Moves.{moves, turns, hears_other, owes, is_held_more}
 use Rattle.gs_enet.proofs.Giving.{order_of, gives, room_from_tests}
 

@@ -1,8 +1,10 @@
 -- What a peer that reads a command stands for.
-use Rattle.std.proofs.Common.{◌≡◌, ◌≢◌, ◌⊎◌, ◌<◌, ◌≤◌, ◌+◌, ◌-◌, ◌%◌, ◌^◌, ℕ, zero, suc, Bool, true, false, not, cond, List, [], ◌∷◌, ◌++◌, length, map, get_or, set, Option, Some, None, refl, sym, ap, subst, ◌∙◌, arith, inl, inr}
+use Rattle.std.proofs.Common.{◌≡◌, ◌≢◌, ◌⊎◌, ◌<◌, ◌≤◌, ◌+◌, ◌-◌, ◌%◌, ◌^◌, ℕ, zero, suc, Bool, true, false, not, cond, List, [], ◌∷◌, ◌++◌, length, map, get_or}
+use Rattle.std.proofs.Common.{set, Option, Some, None, refl, sym, ap, subst, ◌∙◌, arith, inl, inr}
 use Rattle.std.specs.Prelude.{◌==◌, ◌&&◌, ◌||◌, nat_le, nat_lt, is_some, IsSome}
 use Rattle.std.specs.List.{All, AllZip, list_any, find, filter}
-use Rattle.std.proofs.lemmas.Bool.{cond-true, cond-false, false≢true, eq-eqb, ne_eqb, cases_eq, cases_Bool, and_from, or_from, or_left, or_right, and_left, and_right, lt-leb, le-leb, lt-ltb}
+use Rattle.std.proofs.lemmas.Bool.{cond-true, cond-false, false≢true, eq-eqb, ne_eqb, cases_eq, cases_Bool, and_from, or_from, or_left, or_right, and_left}
+use Rattle.std.proofs.lemmas.Bool.{and_right, lt-leb, le-leb, lt-ltb}
 use Rattle.std.proofs.lemmas.List.{append_assoc, append-nil, length-append, get_or-set_same, get_or-set_other, length-set}
 use Rattle.std.proofs.lemmas.List.Elements.{All-head, All-tail, All-cons, All-nil, length_all_zip, filter-append}
 use Rattle.std.proofs.lemmas.List.Folds.{list_any-append, find-append}
@@ -15,9 +17,13 @@ use Rattle.gs_enet.specs.declared.event.PeerEvent.{PeerEvent}
 use Rattle.gs_enet.specs.declared.event.PeerEvent.TheVariants as event
 use Rattle.gs_enet.specs.declared.state.PeerState.{PeerState}
 use Rattle.gs_enet.specs.declared.state.PeerState.TheVariants as state
-use Rattle.gs_enet.specs.Record.{PeerRecord, Unacknowledged, Content, Connect, VerifyConnect, Disconnect, Message, channels, control, last_number, given_on, messages_on, heard, heard_count, is_shut, shut, happened, owing, fresh}
-use Rattle.gs_enet.specs.Receive.{leave_if, leaving, is_named, acknowledged, acknowledged_if, acknowledge_came, disconnect_if, disconnect_came, connected, takes_messages, expected, is_next, is_behind, message_if, taken_if, message_came, is_connect_content, is_connect, verify_if, verified, verify_came}
-use Rattle.gs_enet.specs.Steps.{next_number, is_full, is_open, with_message, close_if, closed, placed, first_event, next_event, telling, timed_if, timed_at, name_of, is_lost, due_again}
+use Rattle.gs_enet.specs.Record.{PeerRecord, Unacknowledged, Content, Connect, VerifyConnect, Disconnect, Message, channels, control, last_number, given_on}
+use Rattle.gs_enet.specs.Record.{messages_on, heard, heard_count, is_shut, shut, happened, owing, fresh}
+use Rattle.gs_enet.specs.Receive.{leave_if, leaving, is_named, acknowledged, acknowledged_if, acknowledge_came, disconnect_if, disconnect_came, connected}
+use Rattle.gs_enet.specs.Receive.{takes_messages, expected, is_next, is_behind, message_if, taken_if, message_came, is_connect_content, is_connect, verify_if}
+use Rattle.gs_enet.specs.Receive.{verified, verify_came}
+use Rattle.gs_enet.specs.Steps.{next_number, is_full, is_open, with_message, close_if, closed, placed, first_event, next_event, telling, timed_if, timed_at}
+use Rattle.gs_enet.specs.Steps.{name_of, is_lost, due_again}
 use Rattle.gs_enet.specs.Window.{unacknowledged, in_window, front_is_held}
 use Rattle.gs_enet.specs.Channels.{next_of, channel_held, all_held, is_channel_full, AreEmpty, GivesOne, SameHeld, MarksDue, DropsNamed}
 use Rattle.gs_enet.specs.Controls.{content_of, unacknowledged_control, control_held, is_closing, is_accepting}
@@ -26,7 +32,8 @@ use Rattle.gs_enet.specs.Standing.{HasCounts, StandsFor, held_by}
 use Rattle.gs_enet.specs.declared.peer.Peer.{Peer}
 use Rattle.gs_enet.proofs.Lists.{Each, each_weaker, each_append, each_find}
 use Rattle.gs_enet.proofs.Kept.{IsNoMessage, messages_on-other, messages_on-message, messages_on-apart, giving, given_on-own, given_on-apart}
-use Rattle.gs_enet.proofs.Flat.{before, behind, split_at, split_set, before-below, behind-from, placed_last, same_counts, all_held-from, all_held-below, channel_held-on, IsOn, IsMessage, IsBelow, IsFrom}
+use Rattle.gs_enet.proofs.Flat.{before, behind, split_at, split_set, before-below, behind-from, placed_last, same_counts, all_held-from, all_held-below}
+use Rattle.gs_enet.proofs.Flat.{channel_held-on, IsOn, IsMessage, IsBelow, IsFrom}
 use Rattle.gs_enet.proofs.Standings.{counts_set, held_set_same, sizes}
 
 pub disconnect-first : (a : Answer) (r : PeerRecord) → r.disconnected ≡ false

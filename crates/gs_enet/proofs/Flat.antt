@@ -1,10 +1,12 @@
 -- The messages of all channels, one channel after the other.
-use Rattle.std.proofs.Common.{◌≡◌, ◌≢◌, ◌⊎◌, ◌<◌, ◌≤◌, ◌+◌, ◌-◌, ◌%◌, ℕ, zero, suc, Bool, true, false, not, cond, List, [], ◌∷◌, ◌++◌, length, map, take, drop, get_or, set, Option, Some, None, refl, sym, ap, subst, ◌∙◌, arith, inl, inr}
+use Rattle.std.proofs.Common.{◌≡◌, ◌≢◌, ◌⊎◌, ◌<◌, ◌≤◌, ◌+◌, ◌-◌, ◌%◌, ℕ, zero, suc, Bool, true, false, not, cond, List, [], ◌∷◌, ◌++◌, length, map, take, drop}
+use Rattle.std.proofs.Common.{get_or, set, Option, Some, None, refl, sym, ap, subst, ◌∙◌, arith, inl, inr}
 use Rattle.std.specs.Prelude.{◌==◌, ◌&&◌, ◌||◌, nat_lt, is_some}
 use Rattle.std.specs.List.{All, AllZip, filter, find, list_any}
 use Rattle.std.specs.Option.{option_map, option_or}
 use Rattle.std.proofs.lemmas.Bool.{cond-true, cond-false, false≢true, eq-eqb, ne_eqb, cases_eq, or_from, and_left, le-ltb, lt-ltb, or_left}
-use Rattle.std.proofs.lemmas.List.{append_assoc, append-nil, length-append, set_split, take-append-drop, drop_more, length-take-le, length-drop, length_push, take_more, take_all, map-append}
+use Rattle.std.proofs.lemmas.List.{append_assoc, append-nil, length-append, set_split, take-append-drop, drop_more, length-take-le, length-drop, length_push}
+use Rattle.std.proofs.lemmas.List.{take_more, take_all, map-append}
 use Rattle.std.proofs.lemmas.List.Elements.{All-head, All-tail, All-push, All-nil, All-cons, AllZip-get_or, length_all_zip, filter-append}
 use Rattle.std.proofs.lemmas.List.Folds.{find-append}
 use Rattle.gs_enet.specs.declared.held.Held.{Held}

@@ -13,7 +13,8 @@ use Rattle.gs_enet.specs.Write.{Item, Answers, Orders}
 use Rattle.gs_enet.specs.World.{Written}
 use Rattle.gs_bytes.specs.Prefix.{IsPrefixOf}
 use Rattle.gs_enet.proofs.Lists.{Each, each_weaker}
-use Rattle.gs_enet.proofs.Kept.{Kept, IsDone, IsOver, IsShut, IsAt, Says, IsHeld, Has, IsTrueAnswer, IsTrueOrder, IsFewer, OrdersOut, AnswersOut, NothingAfter, IsLast, IsNoMessage, count_of, messages_on-other, messages_on-message, messages_on-apart}
+use Rattle.gs_enet.proofs.Kept.{Kept, IsDone, IsOver, IsShut, IsAt, Says, IsHeld, Has, IsTrueAnswer, IsTrueOrder, IsFewer, OrdersOut, AnswersOut, NothingAfter}
+use Rattle.gs_enet.proofs.Kept.{IsLast, IsNoMessage, count_of, messages_on-other, messages_on-message, messages_on-apart}
 
 says_more : (gv : List Given) (hr hr' : List PeerEvent) (sg sg' : PeerState) → (IsDone gv hr sg → IsDone gv hr' sg') → (content : Content) (c n : ℕ)
     → Says gv hr sg content c n → Says gv hr' sg' content c n

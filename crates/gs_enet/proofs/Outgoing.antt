@@ -1,5 +1,6 @@
 -- What is to be written, and what is left of it.
-use Rattle.std.proofs.Common.{◌≡◌, ◌≢◌, ◌⊎◌, ◌<◌, ◌≤◌, ◌+◌, ◌-◌, ◌*◌, ◌%◌, ℕ, zero, suc, Bool, true, false, cond, List, [], ◌∷◌, ◌++◌, length, map, take, drop, Option, Some, None, refl, sym, ap, subst, ◌∙◌, arith, inl, inr}
+use Rattle.std.proofs.Common.{◌≡◌, ◌≢◌, ◌⊎◌, ◌<◌, ◌≤◌, ◌+◌, ◌-◌, ◌*◌, ◌%◌, ℕ, zero, suc, Bool, true, false, cond, List, [], ◌∷◌, ◌++◌, length, map, take, drop}
+use Rattle.std.proofs.Common.{Option, Some, None, refl, sym, ap, subst, ◌∙◌, arith, inl, inr}
 use Rattle.std.specs.Prelude.{nat_le}
 use Rattle.std.specs.List.{filter, flat_map, AllByRecursion}
 use Rattle.std.proofs.lemmas.Bool.{cond-true, cond-false, le-leb, lt-leb}
@@ -14,7 +15,8 @@ use Rattle.gs_enet_wire.proofs.Writers.{puts_then, spelling_again}
 use Rattle.gs_enet.specs.declared.answer.Answer.{Answer}
 use Rattle.gs_enet.specs.declared.peer.Peer.{Peer}
 use Rattle.gs_enet.specs.Record.{PeerRecord, Content, Connect, VerifyConnect, Disconnect, Message, Order, Unacknowledged, is_shut, at_moment}
-use Rattle.gs_enet.specs.Write.{Item, Answers, Orders, item_command, order_command, is_due, due_if, going_out, fitting, next_items, having_written, first_written, wrote_next, datagram_of, datagram_if, next_datagram, address}
+use Rattle.gs_enet.specs.Write.{Item, Answers, Orders, item_command, order_command, is_due, due_if, going_out, fitting, next_items, having_written}
+use Rattle.gs_enet.specs.Write.{first_written, wrote_next, datagram_of, datagram_if, next_datagram, address}
 use Rattle.gs_enet.specs.Standing.{StandsFor}
 use Rattle.gs_enet.specs.Items.{IsTooLong, WritesItem, WritesOne}
 use Rattle.gs_enet.specs.Outcomes.{WritesNext, WritesDatagram}

@@ -1,5 +1,6 @@
 -- What a side keeps with what it reads.
-use Rattle.std.proofs.Common.{◌≡◌, ◌⊎◌, ◌<◌, ◌≤◌, ◌+◌, ◌-◌, ◌%◌, ℕ, zero, suc, Bool, true, false, not, cond, List, [], ◌∷◌, ◌++◌, length, map, Option, Some, None, refl, sym, ap, subst, ◌∙◌, arith, inl, inr}
+use Rattle.std.proofs.Common.{◌≡◌, ◌⊎◌, ◌<◌, ◌≤◌, ◌+◌, ◌-◌, ◌%◌, ℕ, zero, suc, Bool, true, false, not, cond, List, [], ◌∷◌, ◌++◌, length, map, Option, Some}
+use Rattle.std.proofs.Common.{None, refl, sym, ap, subst, ◌∙◌, arith, inl, inr}
 use Rattle.std.specs.Prelude.{◌==◌, ◌&&◌, nat_lt, is_some, slice_get}
 use Rattle.std.specs.List.{filter, find}
 use Rattle.std.proofs.lemmas.Bool.{and_parts, not-false, leb-true, eqb-true, cases_lt, false≢true}
@@ -9,13 +10,16 @@ use Rattle.gs_enet.specs.declared.event.PeerEvent.TheVariants as event
 use Rattle.gs_enet.specs.declared.state.PeerState.{PeerState}
 use Rattle.gs_enet.specs.declared.state.PeerState.TheVariants as state
 use Rattle.gs_enet.specs.declared.answer.Answer.{Answer}
-use Rattle.gs_enet.specs.Record.{PeerRecord, Unacknowledged, Content, Connect, VerifyConnect, Disconnect, Message, Order, Given, channels, control, given_on, messages_on, heard, heard_count, orders, shut, happened, owing, at_moment}
-use Rattle.gs_enet.specs.Receive.{takes_messages, expected, distance, message_if, is_next, is_behind, taken_if, is_connect, verified, verify_if, disconnect_if, connected, acknowledged, is_named, acknowledged_if, answer_to, received, all_received}
+use Rattle.gs_enet.specs.Record.{PeerRecord, Unacknowledged, Content, Connect, VerifyConnect, Disconnect, Message, Order, Given, channels, control, given_on}
+use Rattle.gs_enet.specs.Record.{messages_on, heard, heard_count, orders, shut, happened, owing, at_moment}
+use Rattle.gs_enet.specs.Receive.{takes_messages, expected, distance, message_if, is_next, is_behind, taken_if, is_connect, verified, verify_if, disconnect_if}
+use Rattle.gs_enet.specs.Receive.{connected, acknowledged, is_named, acknowledged_if, answer_to, received, all_received}
 use Rattle.gs_enet.specs.Steps.{next_number}
 use Rattle.gs_enet.specs.Write.{Item, Answers, Orders, item_command, order_command}
 use Rattle.gs_enet.specs.World.{Written, Side, came, answered, IsNearOrder, IsNearItem, AreNear, IsNear}
 use Rattle.gs_enet.proofs.Lists.{Each, each_weaker, each_map, each_unmap, each_push, each_filter, each_find}
-use Rattle.gs_enet.proofs.Kept.{Kept, IsDone, IsOver, IsShut, IsAt, Says, IsHeld, Has, HasAnswered, IsTrueAnswer, IsTrueOrder, AnswersTruly, IsFewer, OrdersOut, AnswersOut, count_of, messages_on-message}
+use Rattle.gs_enet.proofs.Kept.{Kept, IsDone, IsOver, IsShut, IsAt, Says, IsHeld, Has, HasAnswered, IsTrueAnswer, IsTrueOrder, AnswersTruly, IsFewer, OrdersOut}
+use Rattle.gs_enet.proofs.Kept.{AnswersOut, count_of, messages_on-message}
 use Rattle.gs_enet.proofs.Moves.{moves, turns, hears_message}
 use Rattle.gs_enet.proofs.Giving.{order_of}
 use Rattle.gs_enet.proofs.Acts.{Both, leave_both, event_both, owing_both, shut_both}

@@ -1,6 +1,8 @@
 -- A window and the messages in it.
-use Rattle.std.proofs.Common.{◌≡◌, ◌≢◌, ◌⊎◌, ◌<◌, ◌≤◌, ◌+◌, ◌-◌, ◌%◌, ◌^◌, ℕ, zero, suc, Bool, true, false, not, cond, List, [], ◌∷◌, ◌++◌, length, map, take, drop, replicate, get_or, set, Option, Some, None, refl, sym, ap, subst, ◌∙◌, arith, inl, inr, add_assoc}
-use Rattle.std.proofs.lemmas.List.{append_assoc, append-nil, length-append, take_more, take_more_set, drop-set-lt, drop-drop, get_or-drop, get_or-take, get_or-set_same, get_or-set_other, get_or-append_right, set-get_or, length-take, length-replicate, length-set}
+use Rattle.std.proofs.Common.{◌≡◌, ◌≢◌, ◌⊎◌, ◌<◌, ◌≤◌, ◌+◌, ◌-◌, ◌%◌, ◌^◌, ℕ, zero, suc, Bool, true, false, not, cond, List, [], ◌∷◌, ◌++◌, length, map, take}
+use Rattle.std.proofs.Common.{drop, replicate, get_or, set, Option, Some, None, refl, sym, ap, subst, ◌∙◌, arith, inl, inr, add_assoc}
+use Rattle.std.proofs.lemmas.List.{append_assoc, append-nil, length-append, take_more, take_more_set, drop-set-lt, drop-drop, get_or-drop, get_or-take}
+use Rattle.std.proofs.lemmas.List.{get_or-set_same, get_or-set_other, get_or-append_right, set-get_or, length-take, length-replicate, length-set}
 use Rattle.std.proofs.lemmas.List.Elements.{AllZip-push}
 use Rattle.std.proofs.lemmas.Bool.{or_parts, or_from, cond-true, cond-false, false≢true, eq-eqb, ne_eqb, cases_eq, ltb-false}
 use Rattle.std.proofs.lemmas.Bool.Decides.{nat_tests}

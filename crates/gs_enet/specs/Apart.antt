@@ -56,8 +56,8 @@ put_by s = map (λ w. datagram_of w.by w.items) s.wrote
 abbrev pub TookFront : Course → Course → Type 0
 TookFront reader writer = (rest : List Datagram) × (taken_by reader.calls ++ rest ≡ put_by (ended writer))
 
--- Of two new sides, whatever each user does, where each took a front of what the other put. Nothing says which call of the
--- one came before which of the other.
+-- Of two new sides, whatever each user does, where each took a front of what the other put. Nothing says which call of
+-- the one came before which of the other.
 abbrev pub MessagesInOrderApart : Type 0
 MessagesInOrderApart =
     (left right : Course) → TookFront left right → TookFront right left

@@ -1,5 +1,6 @@
 -- What the channels hold.
-use Rattle.std.specs.Prelude.{ℕ, ◌≡◌, ◌+◌, suc, not, Bool, true, false, List, [], ◌∷◌, ◌++◌, length, map, find, Option, Some, None, is_some, ◌<◌, ◌==◌, ◌||◌, slice_index_or}
+use Rattle.std.specs.Prelude.{ℕ, ◌≡◌, ◌+◌, suc, not, Bool, true, false, List, [], ◌∷◌, ◌++◌, length, map, find, Option}
+use Rattle.std.specs.Prelude.{Some, None, is_some, ◌<◌, ◌==◌, ◌||◌, slice_index_or}
 use Rattle.std.specs.List.{filter, All}
 use Rattle.std.specs.Option.{option_map}
 use Rattle.gs_enet.specs.declared.held.Held.{Held}

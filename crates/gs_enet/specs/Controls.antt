@@ -1,5 +1,6 @@
 -- The command that the control channel holds, and the records that a peer stands for.
-use Rattle.std.specs.Prelude.{ℕ, ◌≡◌, ◌<◌, ◌≤◌, ◌+◌, Bool, true, false, List, [], ◌∷◌, ◌++◌, length, Option, Some, None, slice_index_or}
+use Rattle.std.specs.Prelude.{ℕ, ◌≡◌, ◌<◌, ◌≤◌, ◌+◌, Bool, true, false, List, [], ◌∷◌, ◌++◌, length, Option, Some, None}
+use Rattle.std.specs.Prelude.{slice_index_or}
 use Rattle.gs_enet.specs.declared.control.Control.{Control}
 use Rattle.gs_enet.specs.declared.control.ControlKind.{ControlKind}
 use Rattle.gs_enet.specs.declared.control.ControlKind.TheVariants as kind

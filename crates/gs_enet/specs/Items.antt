@@ -1,5 +1,6 @@
 -- Cited by private contracts alone: what the writer of one item did.
-use Rattle.std.specs.Prelude.{ℕ, ◌≡◌, ◌≢◌, ◌⊎◌, ◌≤◌, ◌<◌, ◌+◌, ◌%◌, true, false, List, [], ◌∷◌, length, take, Option, Some, None, slice_index_or}
+use Rattle.std.specs.Prelude.{ℕ, ◌≡◌, ◌≢◌, ◌⊎◌, ◌≤◌, ◌<◌, ◌+◌, ◌%◌, true, false, List, [], ◌∷◌, length, take, Option}
+use Rattle.std.specs.Prelude.{Some, None, slice_index_or}
 use Rattle.std.specs.List.{filter}
 use Rattle.gs_enet_wire.specs.declared.command.Command.{Command}
 use Rattle.gs_enet_wire.specs.declared.command.Command.TheVariants as command
@@ -9,7 +10,8 @@ use Rattle.gs_enet.specs.Puts.{PutsIfFits}
 use Rattle.gs_enet.specs.declared.channel.Channel.{Channel}
 use Rattle.gs_enet.specs.declared.control.Control.{Control}
 use Rattle.gs_enet.specs.declared.peer.Peer.{Peer}
-use Rattle.gs_enet.specs.Record.{PeerRecord, Message, Order, Unacknowledged, channels, most_message, datagram_room, is_shut}
+use Rattle.gs_enet.specs.Record.{PeerRecord, Message, Order, Unacknowledged, channels, most_message, datagram_room}
+use Rattle.gs_enet.specs.Record.{is_shut}
 use Rattle.gs_enet.specs.Write.{Item, is_due, going_out, item_command, having_written}
 use Rattle.gs_enet.specs.Channels.{channel_held, all_held, SameHeld, WritesFirst, HasDue}
 use Rattle.gs_enet.specs.Controls.{control_held}

@@ -1,8 +1,10 @@
 -- What one side of a connection is. A channel's messages are numbered from 1, without wrap.
-use Rattle.std.specs.Prelude.{ℕ, ◌-◌, ◌^◌, ◌==◌, Bool, true, false, if◌then◌else◌, List, [], ◌∷◌, ◌++◌, length, map, max, Option, Some, None}
+use Rattle.std.specs.Prelude.{ℕ, ◌-◌, ◌^◌, ◌==◌, Bool, true, false, if◌then◌else◌, List, [], ◌∷◌, ◌++◌, length, map}
+use Rattle.std.specs.Prelude.{max, Option, Some, None}
 use Rattle.std.specs.List.{filter}
 use Rattle.gs_enet.specs.declared.answer.Answer.{Answer}
-use Rattle.gs_enet.specs.declared.limits.TheConstants.{CHANNELS, CONTROL, NOBODY, MOST_MESSAGE, DATAGRAM_ROOM, WINDOW_SPAN}
+use Rattle.gs_enet.specs.declared.limits.TheConstants.{CHANNELS, CONTROL, NOBODY, MOST_MESSAGE, DATAGRAM_ROOM}
+use Rattle.gs_enet.specs.declared.limits.TheConstants.{WINDOW_SPAN}
 use Rattle.gs_enet.specs.declared.event.PeerEvent.{PeerEvent}
 use Rattle.gs_enet.specs.declared.event.PeerEvent.TheVariants as event
 use Rattle.gs_enet.specs.declared.state.PeerState.{PeerState}

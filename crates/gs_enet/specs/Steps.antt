@@ -1,12 +1,14 @@
 -- What a side does when its user calls, and when time passes.
-use Rattle.std.specs.Prelude.{ℕ, ◌+◌, ◌-◌, ◌*◌, ◌^◌, ◌%◌, ◌==◌, ◌&&◌, ◌||◌, not, Bool, true, false, if◌then◌else◌, nat_lt, nat_le, min, List, [], ◌∷◌, ◌++◌, find, map, Option, Some, None}
+use Rattle.std.specs.Prelude.{ℕ, ◌+◌, ◌-◌, ◌*◌, ◌^◌, ◌%◌, ◌==◌, ◌&&◌, ◌||◌, not, Bool, true, false, if◌then◌else◌}
+use Rattle.std.specs.Prelude.{nat_lt, nat_le, min, List, [], ◌∷◌, ◌++◌, find, map, Option, Some, None}
 use Rattle.std.specs.List.{list_any}
 use Rattle.gs_enet.specs.declared.event.PeerEvent.{PeerEvent}
 use Rattle.gs_enet.specs.declared.event.PeerEvent.TheVariants as event
 use Rattle.gs_enet.specs.declared.limits.TheConstants.{MOST_WRITES}
 use Rattle.gs_enet.specs.declared.state.PeerState.{PeerState}
 use Rattle.gs_enet.specs.declared.state.PeerState.TheVariants as state
-use Rattle.gs_enet.specs.Record.{PeerRecord, Message, Order, Unacknowledged, window_span, last_number, given_count, is_shut, at_moment, happened, shut, fresh}
+use Rattle.gs_enet.specs.Record.{PeerRecord, Message, Order, Unacknowledged, window_span, last_number, given_count}
+use Rattle.gs_enet.specs.Record.{is_shut, at_moment, happened, shut, fresh}
 use Rattle.gs_enet.specs.Receive.{leaving}
 
 -- ---- send
@@ -20,7 +22,8 @@ next_number r channel = given_count r channel + 1
 abbrev pub is_full : PeerRecord → ℕ → Bool
 is_full r channel =
     list_any
-    (λ (u : Unacknowledged). (u.order.channel == channel) && nat_le (u.order.number + window_span) (next_number r channel))
+    (λ (u : Unacknowledged). (u.order.channel == channel)
+    && nat_le (u.order.number + window_span) (next_number r channel))
     r.unacknowledged
     || nat_le last_number (next_number r channel)
 

@@ -1,6 +1,7 @@
 -- A channel's messages that aren't acknowledged, as its window keeps them: a place for each number from the oldest
 -- on, which is empty where that number is acknowledged.
-use Rattle.std.specs.Prelude.{ℕ, ◌+◌, ◌&&◌, not, Bool, true, false, List, [], ◌∷◌, Option, Some, None, ◌≡◌, slice_set, slice_index_or}
+use Rattle.std.specs.Prelude.{ℕ, ◌+◌, ◌&&◌, not, Bool, true, false, List, [], ◌∷◌, Option, Some, None, ◌≡◌, slice_set}
+use Rattle.std.specs.Prelude.{slice_index_or}
 use Rattle.gs_enet.specs.declared.held.Held.{Held}
 use Rattle.gs_enet.specs.Record.{Message, Unacknowledged}
 use Rattle.gs_enet.specs.Steps.{has_waited, is_lost, due_again}

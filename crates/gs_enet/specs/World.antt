@@ -1,6 +1,8 @@
 -- Two sides and what they wrote. What one wrote may come to the other at once, late, several times or never.
-use Rattle.std.specs.Prelude.{ℕ, ◌+◌, ◌-◌, ◌%◌, ◌<◌, ◌≤◌, ◌&&◌, Bool, true, false, nat_lt, List, [], ◌∷◌, ◌++◌, Option, Some, None, slice_get}
-use Rattle.gs_enet.specs.Record.{PeerRecord, Content, Connect, VerifyConnect, Disconnect, Message, channels, heard_count, at_moment, connecting, accepting}
+use Rattle.std.specs.Prelude.{ℕ, ◌+◌, ◌-◌, ◌%◌, ◌<◌, ◌≤◌, ◌&&◌, Bool, true, false, nat_lt, List, [], ◌∷◌, ◌++◌, Option}
+use Rattle.std.specs.Prelude.{Some, None, slice_get}
+use Rattle.gs_enet.specs.Record.{PeerRecord, Content, Connect, VerifyConnect, Disconnect, Message, channels}
+use Rattle.gs_enet.specs.Record.{heard_count, at_moment, connecting, accepting}
 use Rattle.gs_enet.specs.Receive.{expected, received, taken}
 use Rattle.gs_enet.specs.Steps.{next_number, can_send, with_message, closed, told_next, timed}
 use Rattle.gs_enet.specs.Write.{Item, Answers, Orders, item_command, next_items, wrote_next, datagram_of}

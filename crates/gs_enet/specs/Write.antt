@@ -1,5 +1,6 @@
 -- What a side writes.
-use Rattle.std.specs.Prelude.{ℕ, ◌+◌, ◌-◌, ◌%◌, Bool, true, false, if◌then◌else◌, nat_le, List, [], ◌∷◌, ◌++◌, length, map, drop, zero, suc, Option, Some, None, unwrap_or}
+use Rattle.std.specs.Prelude.{ℕ, ◌+◌, ◌-◌, ◌%◌, Bool, true, false, if◌then◌else◌, nat_le, List, [], ◌∷◌, ◌++◌, length}
+use Rattle.std.specs.Prelude.{map, drop, zero, suc, Option, Some, None, unwrap_or}
 use Rattle.std.specs.List.{filter}
 use Rattle.gs_enet_wire.specs.declared.command.Command.{Command}
 use Rattle.gs_enet_wire.specs.declared.command.Command.TheVariants as command
@@ -7,7 +8,8 @@ use Rattle.gs_enet_wire.specs.declared.datagram.Datagram.{Datagram}
 use Rattle.gs_enet_wire.specs.Grammar.{command_spelling}
 use Rattle.gs_enet.specs.declared.answer.Answer.{Answer}
 use Rattle.gs_enet.specs.declared.limits.TheConstants.{WINDOW_BYTES, THROTTLE_INTERVAL, THROTTLE_STEP}
-use Rattle.gs_enet.specs.Record.{PeerRecord, Content, Connect, VerifyConnect, Disconnect, Message, Order, Unacknowledged}
+use Rattle.gs_enet.specs.Record.{PeerRecord, Content, Connect, VerifyConnect, Disconnect, Message, Order}
+use Rattle.gs_enet.specs.Record.{Unacknowledged}
 use Rattle.gs_enet.specs.Record.{channels, control, nobody, datagram_room, is_shut, at_moment}
 
 -- ---- commands on the wire

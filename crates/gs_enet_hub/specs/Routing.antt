@@ -1,5 +1,6 @@
 -- Which connection a datagram is for.
-use Rattle.std.specs.Prelude.{ℕ, ◌≡◌, ◌≢◌, ◌⊎◌, ◌==◌, ◌<◌, Bool, true, false, List, [], ◌∷◌, Option, Some, None, IsSome, Result, Ok, Err}
+use Rattle.std.specs.Prelude.{ℕ, ◌≡◌, ◌≢◌, ◌⊎◌, ◌==◌, ◌<◌, Bool, true, false, List, [], ◌∷◌, Option, Some, None, IsSome}
+use Rattle.std.specs.Prelude.{Result, Ok, Err}
 use Rattle.gs_bytes.specs.declared.addr.Addr.{Addr}
 use Rattle.gs_enet_wire.specs.declared.command.Command.{Command}
 use Rattle.gs_enet_wire.specs.declared.command.Command.TheVariants as command
@@ -67,7 +68,8 @@ abbrev pub RoutesRequest : Connect → Addr → ℕ → Seating → Result ℕ R
 RoutesRequest c from now old (Ok key) new =
     (HasName from c.connect_id (member old key) × SameMembers old new)
     ⊎ (IsNew old from c.connect_id × Joins c from now key old new)
-RoutesRequest c from now old (Err route_error.HubFull) new = IsNew old from c.connect_id × IsFull old × SameMembers old new
+RoutesRequest c from now old (Err route_error.HubFull) new = IsNew old from c.connect_id × IsFull old
+    × SameMembers old new
 RoutesRequest c from now old (Err route_error.OutOfMemory) new = SameMembers old new
 RoutesRequest c from now old (Err route_error.NoPeer) new = ⊥
 RoutesRequest c from now old (Err (route_error.BadDatagram place)) new = ⊥

@@ -1,5 +1,6 @@
 -- Which connections there are: a key for each, at which its peer and the other side's name stand.
-use Rattle.std.specs.Prelude.{ℕ, ◌≡◌, ◌≢◌, ◌==◌, ◌<◌, Bool, true, false, List, length, Option, Some, None, is_some, IsSome, slice_index_or}
+use Rattle.std.specs.Prelude.{ℕ, ◌≡◌, ◌≢◌, ◌==◌, ◌<◌, Bool, true, false, List, length, Option, Some, None, is_some}
+use Rattle.std.specs.Prelude.{IsSome, slice_index_or}
 use Rattle.slab.specs.Slab.{Slab, get, with_value}
 use Rattle.gs_bytes.specs.declared.addr.Addr.{Addr}
 use Rattle.gs_enet.specs.declared.peer.Peer.{Peer}

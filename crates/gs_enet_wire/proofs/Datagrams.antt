@@ -1,12 +1,14 @@
 -- A list of bytes has one reading: one datagram, or one place of a fault.
-use Rattle.std.proofs.Common.{cond, suc, get_or, le-leb, ltb, eqb, ◌≡◌, ◌≢◌, ℕ, ◌+◌, ◌*◌, ◌/◌, ◌%◌, ◌<◌, ◌≤◌, Bool, true, false, List, [], ◌∷◌, ◌++◌, length, drop, Option, Some, None, refl, sym, ap, ◌∙◌, append_assoc, arith, length-append}
+use Rattle.std.proofs.Common.{cond, suc, get_or, le-leb, ltb, eqb, ◌≡◌, ◌≢◌, ℕ, ◌+◌, ◌*◌, ◌/◌, ◌%◌, ◌<◌, ◌≤◌, Bool, true, false, List, [], ◌∷◌, ◌++◌, length}
+use Rattle.std.proofs.Common.{drop, Option, Some, None, refl, sym, ap, ◌∙◌, append_assoc, arith, length-append}
 use Rattle.std.specs.Prelude.{is_some, MatchBool, nat_le, ◌==◌, ◌||◌}
 use Rattle.std.proofs.lemmas.Bool.{ne_eqb, lt-leb, le-ltb}
 use Rattle.std.proofs.lemmas.List.{drop_at, append-nil, append_cancel_right}
 use Rattle.byteorder.specs.Numbers.{big_number-reads_back}
 use Rattle.gs_enet_wire.specs.declared.command.Command.{Command}
 use Rattle.gs_enet_wire.specs.declared.datagram.Datagram.{Datagram}
-use Rattle.gs_enet_wire.specs.Grammar.{IsCommand, AreCommands, BeginsNoCommand, after_first, Field, field_bytes, fields_bytes, u16, asking, header_word, sent_field, header, HasHeader, most_datagram, Spells, is_compressed, is_timed, header_length, StopsAt, IsFaultAt}
+use Rattle.gs_enet_wire.specs.Grammar.{IsCommand, AreCommands, BeginsNoCommand, after_first, Field, field_bytes, fields_bytes, u16, asking, header_word}
+use Rattle.gs_enet_wire.specs.Grammar.{sent_field, header, HasHeader, most_datagram, Spells, is_compressed, is_timed, header_length, StopsAt, IsFaultAt}
 use Rattle.gs_bytes.specs.Field.{big_from}
 use Rattle.gs_enet_wire.proofs.FieldLemmas.{widths, values, fields_same}
 use Rattle.gs_enet_wire.proofs.OneCommand.{command_same, asking_same}

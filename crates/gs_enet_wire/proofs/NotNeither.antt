@@ -1,5 +1,6 @@
 -- Any bytes spell a datagram or have a fault.
-use Rattle.std.proofs.Common.{◌≡◌, ◌≢◌, ℕ, zero, suc, ◌+◌, ◌*◌, ◌/◌, ◌%◌, ◌<◌, ◌≤◌, Bool, true, false, cond, eqb, ltb, get_or, List, [], ◌∷◌, ◌++◌, length, drop, Option, Some, None, refl, sym, ap, subst, ◌∙◌, append_assoc, arith, length-append}
+use Rattle.std.proofs.Common.{◌≡◌, ◌≢◌, ℕ, zero, suc, ◌+◌, ◌*◌, ◌/◌, ◌%◌, ◌<◌, ◌≤◌, Bool, true, false, cond, eqb, ltb, get_or, List, [], ◌∷◌, ◌++◌, length}
+use Rattle.std.proofs.Common.{drop, Option, Some, None, refl, sym, ap, subst, ◌∙◌, append_assoc, arith, length-append}
 use Rattle.std.specs.Prelude.{is_some, MatchBool, ◌||◌}
 use Rattle.std.specs.List.{AllByRecursion}
 use Rattle.std.proofs.lemmas.Bool.{false≢true, ltb-false}
@@ -9,7 +10,8 @@ use Rattle.std.proofs.lemmas.Nat.{be_bytes_2}
 use Rattle.gs_bytes.specs.Field.{big_from}
 use Rattle.gs_enet_wire.specs.declared.command.Command.{Command}
 use Rattle.gs_enet_wire.specs.declared.datagram.Datagram.{Datagram}
-use Rattle.gs_enet_wire.specs.Grammar.{u16, field_bytes, fields_bytes, header, HasHeader, most_datagram, Spells, is_compressed, is_timed, header_length, after_first, AreCommands, StopsAt}
+use Rattle.gs_enet_wire.specs.Grammar.{u16, field_bytes, fields_bytes, header, HasHeader, most_datagram, Spells, is_compressed, is_timed, header_length}
+use Rattle.gs_enet_wire.specs.Grammar.{after_first, AreCommands, StopsAt}
 use Rattle.gs_enet_wire.specs.Laws.{NotNeither}
 use Rattle.gs_enet_wire.proofs.HeaderReaders.{commands_push}
 

@@ -1,12 +1,14 @@
 -- What writers put, one behind the other.
-use Rattle.std.proofs.Common.{zero, suc, get_or, ◌≡◌, ℕ, Bool, true, false, ◌+◌, ◌*◌, ◌/◌, ◌%◌, ◌<◌, ◌≤◌, List, [], ◌∷◌, ◌++◌, length, take, drop, refl, sym, ap, subst, ◌∙◌, append_assoc, arith, length-append}
+use Rattle.std.proofs.Common.{zero, suc, get_or, ◌≡◌, ℕ, Bool, true, false, ◌+◌, ◌*◌, ◌/◌, ◌%◌, ◌<◌, ◌≤◌, List, [], ◌∷◌, ◌++◌, length, take, drop, refl, sym}
+use Rattle.std.proofs.Common.{ap, subst, ◌∙◌, append_assoc, arith, length-append}
 use Rattle.std.specs.Prelude.{is_some}
 use Rattle.std.specs.List.{flat_map, AllByRecursion}
 use Rattle.gs_enet_wire.specs.declared.datagram.Datagram.{Datagram}
 use Rattle.gs_enet_wire.proofs.Datagrams.{one_value}
 use Rattle.std.proofs.lemmas.Grind.{flat_map-append}
 use Rattle.std.proofs.lemmas.List.{take_more, take-append-drop, append-nil, drop-drop, take_at, drop_at, length-take-le}
-use Rattle.gs_enet_wire.specs.Grammar.{header, AreCommands, IsWritable, Spells, spelling, Field, u8, u16, field_bytes, fields_bytes, Fit, kind, head, fields, payload, all_fields, after_first, asking, IsFirst, IsCommand, command_spelling}
+use Rattle.gs_enet_wire.specs.Grammar.{header, AreCommands, IsWritable, Spells, spelling, Field, u8, u16, field_bytes, fields_bytes, Fit, kind, head, fields}
+use Rattle.gs_enet_wire.specs.Grammar.{payload, all_fields, after_first, asking, IsFirst, IsCommand, command_spelling}
 use Rattle.gs_enet_wire.specs.declared.command.Command.{Command}
 use Rattle.gs_enet_wire.specs.declared.command.Command.TheVariants as command
 use Rattle.gs_enet_wire.specs.Writing.{Puts, PutsFields}

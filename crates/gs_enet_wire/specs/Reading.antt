@@ -2,7 +2,8 @@
 use Rattle.std.specs.Prelude.{◌≡◌, ℕ, ◌/◌, ◌%◌, ◌<◌, List, [], ◌∷◌, ◌++◌, Bool}
 use Rattle.gs_enet_wire.specs.declared.command.Command.{Command}
 use Rattle.gs_enet_wire.specs.declared.command.Head.{Head}
-use Rattle.gs_enet_wire.specs.Grammar.{Field, u8, u16, fields_bytes, Fit, head, kind, fields, payload, asking, IsCommand}
+use Rattle.gs_enet_wire.specs.Grammar.{Field, u8, u16, fields_bytes, Fit, head, kind, fields, payload, asking}
+use Rattle.gs_enet_wire.specs.Grammar.{IsCommand}
 
 -- the old bytes are those fields and then the new bytes
 pub record Takes (fs : List Field) (old new : List ℕ) : Type 0 where

@@ -4,7 +4,8 @@ use Rattle.gs_enet_wire.specs.declared.command.Command.{Command}
 use Rattle.gs_enet_wire.specs.declared.error.WireError.{WireError}
 use Rattle.gs_enet_wire.specs.declared.error.WireError.TheVariants.{BadDatagram, OutOfMemory}
 use Rattle.gs_enet_wire.specs.declared.reading.DatagramHeader.{DatagramHeader}
-use Rattle.gs_enet_wire.specs.Grammar.{fields_bytes, Fit, asking, sent_field, header, HasHeader, with_header, AreCommands, StopsAt}
+use Rattle.gs_enet_wire.specs.Grammar.{fields_bytes, Fit, asking, sent_field, header, HasHeader, with_header}
+use Rattle.gs_enet_wire.specs.Grammar.{AreCommands, StopsAt}
 
 -- the old bytes are the sent time, where the header's first two bytes say that there is one, and then the new bytes
 pub record TakesTime (word : ℕ) (sent : Option ℕ) (old new : List ℕ) : Type 0 where

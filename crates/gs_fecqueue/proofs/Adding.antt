@@ -1,5 +1,6 @@
 -- What a queue gives for one more datagram: foreign, of a frame that was left, and taken.
-use Rattle.std.proofs.Common.{◌≡◌, ◌≢◌, ◌<◌, ◌≤◌, ◌+◌, ◌-◌, ℕ, Bool, true, false, List, ◌∷◌, length, take, drop, Option, Some, None, Result, Ok, Err, refl, sym, ap, subst, ◌∙◌, arith}
+use Rattle.std.proofs.Common.{◌≡◌, ◌≢◌, ◌<◌, ◌≤◌, ◌+◌, ◌-◌, ℕ, Bool, true, false, List, ◌∷◌, length, take, drop, Option, Some, None, Result, Ok, Err, refl, sym}
+use Rattle.std.proofs.Common.{ap, subst, ◌∙◌, arith}
 use Rattle.std.specs.Prelude.{nat_lt}
 use Rattle.std.proofs.lemmas.Bool.{cond-false, le-ltb}
 use Rattle.std.proofs.lemmas.List.{take_rest}
@@ -63,7 +64,8 @@ gives-old q c came bytes head stands e grammar old =
           (stands-old q c (taken c (all_but_last came)) now r stands least left);
     }
 
-pub gives-taken : (q after : Queue) (c : ClientSettings) (came : List Arrival) (bytes : List ℕ) (head : VideoHead) (size : ℕ) (what : Added) (moved : Option Moved)
+pub gives-taken : (q after : Queue) (c : ClientSettings) (came : List Arrival) (bytes : List ℕ) (head : VideoHead) (size : ℕ) (what : Added)
+    (moved : Option Moved)
     → StandsFor q c came → Ok head ≡ head_or_why q.ssrc (video_head q.packet bytes) → q.packet ≤ length bytes → q.greatest < head.frame + q.window
     → size ≡ q.packet - 16
     → ((before now : List Received) (r : Received) → IsStanding q c before now → is_left c.window now r.head.frame ≡ false

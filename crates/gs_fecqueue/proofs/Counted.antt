@@ -1,5 +1,6 @@
 -- As many flags of a block are set as shards of it are held.
-use Rattle.std.proofs.Common.{◌≡◌, ◌≢◌, ◌<◌, ◌≤◌, ◌+◌, ◌-◌, ℕ, zero, suc, Bool, true, false, ◌||◌, cond, List, [], ◌∷◌, length, map, get_or, take, drop, refl, sym, ap, subst, ◌∙◌, arith, inl, inr}
+use Rattle.std.proofs.Common.{◌≡◌, ◌≢◌, ◌<◌, ◌≤◌, ◌+◌, ◌-◌, ℕ, zero, suc, Bool, true, false, ◌||◌, cond, List, [], ◌∷◌, length, map, get_or, take, drop, refl}
+use Rattle.std.proofs.Common.{sym, ap, subst, ◌∙◌, arith, inl, inr}
 use Rattle.std.specs.Prelude.{◌==◌}
 use Rattle.std.specs.List.{All, AllPairs, range_with_len, list_any}
 use Rattle.std.proofs.lemmas.Bool.{cases_eq, cases_lt, eq-eqb, ne_eqb, or_from, or_left, or_parts, both_ways}
@@ -31,7 +32,9 @@ pub among-held : (held : List Received) (k : ℕ) (d : Received) → k < length 
 among-held [] k d h = absurd (omega arith)
 among-held (r ∷ held) zero d h = or_left (r.head.index == r.head.index) (is_among held r.head.index) (eq-eqb r.head.index r.head.index refl)
 among-held (r ∷ held) (suc k) d h = elim (cases_eq r.head.index (get_or held k d).head.index) [
-  | inl same ↦ or_left (r.head.index == (get_or held k d).head.index) (is_among held (get_or held k d).head.index) (eq-eqb r.head.index (get_or held k d).head.index same)
+  | inl same ↦
+      or_left (r.head.index == (get_or held k d).head.index) (is_among held (get_or held k d).head.index)
+      (eq-eqb r.head.index (get_or held k d).head.index same)
   | inr other ↦
       ap (λ (b : Bool). b || is_among held (get_or held k d).head.index) (ne_eqb r.head.index (get_or held k d).head.index other)
       ∙ among-held held k d (omega arith)
@@ -41,7 +44,8 @@ among-held (r ∷ held) (suc k) d h = elim (cases_eq r.head.index (get_or held k
 head_apart : (r : Received) (held : List Received) → AllPairs (λ t u. t.head.index ≢ u.head.index) (r ∷ held) → All (λ t. r.head.index ≢ t.head.index) held
 head_apart r held apart k d h = apart 0 (suc k) d (omega arith) (omega arith)
 
-tail_apart : (r : Received) (held : List Received) → AllPairs (λ t u. t.head.index ≢ u.head.index) (r ∷ held) → AllPairs (λ t u. t.head.index ≢ u.head.index) held
+tail_apart : (r : Received) (held : List Received) → AllPairs (λ t u. t.head.index ≢ u.head.index) (r ∷ held)
+    → AllPairs (λ t u. t.head.index ≢ u.head.index) held
 tail_apart r held apart i j d less h = apart (suc i) (suc j) d (omega arith) (omega arith)
 
 count-among : (n : ℕ) (held : List Received) → All (λ r. r.head.index < n) held → AllPairs (λ t u. t.head.index ≢ u.head.index) held

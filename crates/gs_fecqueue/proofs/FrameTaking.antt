@@ -1,8 +1,10 @@
 -- What a frame holds with one more datagram of it, and its verdict.
-use Rattle.std.proofs.Common.{◌≡◌, ◌≢◌, ◌<◌, ◌≤◌, ◌+◌, ◌⊎◌, ℕ, zero, suc, Bool, true, false, ◌&&◌, not, cond, List, [], ◌∷◌, length, set, Option, Some, None, refl, sym, ap, subst, ◌∙◌, arith, inl, inr}
+use Rattle.std.proofs.Common.{◌≡◌, ◌≢◌, ◌<◌, ◌≤◌, ◌+◌, ◌⊎◌, ℕ, zero, suc, Bool, true, false, ◌&&◌, not, cond, List, [], ◌∷◌, length, set, Option, Some, None}
+use Rattle.std.proofs.Common.{refl, sym, ap, subst, ◌∙◌, arith, inl, inr}
 use Rattle.std.specs.Prelude.{◌==◌, nat_le, if◌then◌else◌}
 use Rattle.std.specs.List.{filter, list_any, slice_get}
-use Rattle.std.proofs.lemmas.Bool.{cases_Bool, cases_eq, cond-true, cond-false, eq-eqb, ne_eqb, eqb-true, and_parts, and_from, and_left, and_right, both_ways, false_from_ne_true}
+use Rattle.std.proofs.lemmas.Bool.{cases_Bool, cases_eq, cond-true, cond-false, eq-eqb, ne_eqb, eqb-true, and_parts, and_from, and_left, and_right, both_ways}
+use Rattle.std.proofs.lemmas.Bool.{false_from_ne_true}
 use Rattle.gs_rtp.specs.Stream.{StreamSettings}
 use Rattle.gs_rtp.specs.declared.video.VideoHead.{VideoHead}
 use Rattle.gs_rtp.specs.Video.{IsVideoHead}
@@ -12,7 +14,8 @@ use Rattle.gs_frames.specs.declared.verdict.Why.{Why}
 use Rattle.gs_frames.specs.declared.verdict.Why.TheVariants.{Shape as OtherShape}
 use Rattle.gs_frames.specs.declared.verdict.Shape.{Shape}
 use Rattle.gs_frames.specs.Received.{Received, oldest, is_of_block}
-use Rattle.gs_frames.specs.Verdict.{shape_came, shape_said, first_or, is_same_shape, is_repeat, is_spare, has_all, is_block_whole, is_frame_whole, made_whole, is_counted}
+use Rattle.gs_frames.specs.Verdict.{shape_came, shape_said, first_or, is_same_shape, is_repeat, is_spare, has_all, is_block_whole, is_frame_whole, made_whole}
+use Rattle.gs_frames.specs.Verdict.{is_counted}
 use Rattle.gs_frames.specs.Complete.{payloads}
 use Rattle.gs_fecqueue.specs.declared.block.Block.{Block}
 use Rattle.gs_fecqueue.specs.declared.frame.Frame.{Frame}
@@ -103,7 +106,8 @@ made_whole-is r counted within =
           ap (λ (w : Bool). if frame then FrameWhole else (if w then BlockWhole else Held)) is_whole
           ∙ sym (ap made (sym (block_whole-with r counted) ∙ is_whole))
       | inr not_whole ↦
-          let not_frame : frame ≡ false = false_from_ne_true frame (λ all_whole. both_ways block not_whole (frame-block all f r.head.last_block b all_whole within)) in
+          let not_frame : frame ≡ false =
+          false_from_ne_true frame (λ all_whole. both_ways block not_whole (frame-block all f r.head.last_block b all_whole within)) in
           ap (λ (w : Bool). if w then FrameWhole else (if block then BlockWhole else Held)) not_frame
           ∙ ap (λ (w : Bool). if w then BlockWhole else Held) not_whole
           ∙ sym (ap made (sym (block_whole-with r counted) ∙ not_whole))
@@ -252,7 +256,8 @@ pub taken-blocks : (s : StreamSettings) (before after : Frame) (counted : List R
     → after.number ≡ before.number → after.last_block ≡ before.last_block → after.blocks ≡ set before.blocks b new
     → HoldsBlocks s after (counted_behind (is_counted v) r counted) first
 taken-blocks s before after counted first r head payload b old new v was frame_is brings grammar b_is old_is verdict holds number_is last_is blocks_are =
-    (taken_by_block s before after counted first r head payload b old new v was frame_is brings grammar b_is old_is verdict holds number_is last_is blocks_are).blocks
+    (taken_by_block s before after counted first r head payload b old new v was frame_is brings grammar b_is old_is verdict holds number_is last_is
+    blocks_are).blocks
 
 pub taken-holds : (s : StreamSettings) (before after : Frame) (counted : List Received) (first r : Received) (head : VideoHead) (payload : List ℕ)
     (b : ℕ) (old new : Block) (v : Added)
@@ -263,7 +268,8 @@ pub taken-holds : (s : StreamSettings) (before after : Frame) (counted : List Re
     → HoldsBlock s new (held_behind (is_counted v) r held) (first_behind (is_counted v) r o))
     → after.number ≡ before.number → after.last_block ≡ before.last_block → after.blocks ≡ set before.blocks b new
     → after.image.items ≡ before.image.items → (v ≡ BlockWhole → ⊥) → HoldsFrame s after (counted_behind (is_counted v) r counted) first
-taken-holds s before after counted first r head payload b old new v was frame_is brings grammar b_is old_is verdict holds number_is last_is blocks_are image_is other =
+taken-holds s before after counted first r head payload b old new v was frame_is brings grammar b_is old_is verdict holds number_is last_is blocks_are image_is
+    other =
     let by =
     taken_by_block s before after counted first r head payload b old new v was frame_is brings grammar b_is old_is verdict holds number_is last_is blocks_are in
     frame-holds s before after counted first r v was by.blocks frame_is by.within number_is image_is by.verdict other

@@ -1,5 +1,6 @@
 -- A frame of which nothing came with one more datagram, and one of which nothing came at all.
-use Rattle.std.proofs.Common.{◌≡◌, ◌≢◌, ◌<◌, ◌≤◌, ◌+◌, ◌⊎◌, ℕ, zero, suc, Bool, true, false, ◌&&◌, List, [], ◌∷◌, length, Option, Some, None, refl, sym, ap, subst, ◌∙◌, arith, inl, inr}
+use Rattle.std.proofs.Common.{◌≡◌, ◌≢◌, ◌<◌, ◌≤◌, ◌+◌, ◌⊎◌, ℕ, zero, suc, Bool, true, false, ◌&&◌, List, [], ◌∷◌, length, Option, Some, None, refl, sym, ap}
+use Rattle.std.proofs.Common.{subst, ◌∙◌, arith, inl, inr}
 use Rattle.std.specs.Prelude.{◌==◌, if◌then◌else◌}
 use Rattle.std.specs.List.{All, filter, list_all, range_with_len, slice_get}
 use Rattle.std.proofs.lemmas.Bool.{cases_Bool, cases_lt, cond-true, cond-false, eq-eqb, ne_eqb, and_left, and_parts, both_ways}
@@ -9,7 +10,8 @@ use Rattle.gs_frames.specs.Client.{ClientSettings}
 use Rattle.gs_frames.specs.Received.{Received, greatest, is_left, oldest, is_of_frame, is_of_block}
 use Rattle.gs_frames.specs.Verdict.{first_or, has_all, is_block_whole, is_frame_whole, judged, is_counted, counting}
 use Rattle.gs_frames.specs.Complete.{block_payloads, both, payloads}
-use Rattle.gs_frames.proofs.Counting.{NoneOf, NoneOf-from_oldest, NoneOf-counting, NoneOf-above, oldest_of_frame-none, oldest_of_block-none, filter_of_block-none, oldest-miss, oldest-kept, oldest-new, oldest-none}
+use Rattle.gs_frames.proofs.Counting.{NoneOf, NoneOf-from_oldest, NoneOf-counting, NoneOf-above, oldest_of_frame-none, oldest_of_block-none}
+use Rattle.gs_frames.proofs.Counting.{filter_of_block-none, oldest-miss, oldest-kept, oldest-new, oldest-none}
 use Rattle.gs_fecqueue.specs.declared.block.Block.{Block}
 use Rattle.gs_fecqueue.specs.declared.frame.Frame.{Frame}
 use Rattle.gs_fecqueue.specs.Holding.{HoldsBlock}
@@ -113,7 +115,8 @@ first-with rs r (Some first) e = oldest-kept (is_of_frame r.head.frame) r rs fir
 
 -- ---- a frame that began
 
-pub begun-holds : (s : StreamSettings) (w : ℕ) (frame : Frame) (rs : List Received) (r : Received) (f last : ℕ) → IsBegun frame f last → last ≡ r.head.last_block
+pub begun-holds : (s : StreamSettings) (w : ℕ) (frame : Frame) (rs : List Received) (r : Received) (f last : ℕ) → IsBegun frame f last
+    → last ≡ r.head.last_block
     → oldest (is_of_frame f) rs ≡ None → HoldsFrame s frame (counting w rs) r
 begun-holds s w frame rs r f last begun last_is none =
     let counted = counting w rs in
@@ -134,7 +137,8 @@ begun-holds s w frame rs r f last begun last_is none =
         blocks = subst Holds (sym begun.number_is) blocks;
       };
       image = λ several whole.
-          let mine : is_frame_whole counted f r.head.last_block ≡ true = ap (λ (n : ℕ). is_frame_whole counted n r.head.last_block) (sym begun.number_is) ∙ whole in
+          let mine : is_frame_whole counted f r.head.last_block ≡ true = ap (λ (n : ℕ). is_frame_whole counted n r.head.last_block) (sym begun.number_is)
+          ∙ whole in
           let first : is_block_whole counted f 0 ≡ true = range-each (is_block_whole counted f) 0 (r.head.last_block + 1) 0 mine (omega arith) (omega arith) in
           let not_first : is_block_whole counted f 0 ≡ false = ap (has_all (filter (is_of_block f 0) counted)) (no_first 0) in
           absurd (both_ways (is_block_whole counted f 0) not_first first);

@@ -1,8 +1,10 @@
 -- What a block's room holds with one more datagram of it.
-use Rattle.std.proofs.Common.{◌≡◌, ◌≢◌, ◌<◌, ◌≤◌, ◌+◌, ◌⊎◌, ℕ, zero, suc, Bool, true, false, ◌&&◌, ◌||◌, not, cond, List, [], ◌∷◌, length, get_or, set, Option, Some, None, refl, sym, ap, subst, ◌∙◌, arith, inl, inr}
+use Rattle.std.proofs.Common.{◌≡◌, ◌≢◌, ◌<◌, ◌≤◌, ◌+◌, ◌⊎◌, ℕ, zero, suc, Bool, true, false, ◌&&◌, ◌||◌, not, cond, List, [], ◌∷◌, length, get_or, set, Option}
+use Rattle.std.proofs.Common.{Some, None, refl, sym, ap, subst, ◌∙◌, arith, inl, inr}
 use Rattle.std.specs.Prelude.{◌==◌, nat_le, if◌then◌else◌}
 use Rattle.std.specs.List.{All, AllPairs, list_any}
-use Rattle.std.proofs.lemmas.Bool.{cases_eq, cases_Bool, cond-true, cond-false, eq-eqb, ne_eqb, eqb-true, lt-leb, and_from, and_parts, or_left, not-false, not_from_true}
+use Rattle.std.proofs.lemmas.Bool.{cases_eq, cases_Bool, cond-true, cond-false, eq-eqb, ne_eqb, eqb-true, lt-leb, and_from, and_parts, or_left, not-false}
+use Rattle.std.proofs.lemmas.Bool.{not_from_true}
 use Rattle.std.proofs.lemmas.List.{get_or-set_same, get_or-set_other}
 use Rattle.std.proofs.lemmas.List.Elements.{All-nil, All-cons}
 use Rattle.std.proofs.lemmas.List.Kept.{AllPairs-cons}
@@ -106,7 +108,8 @@ pub verdict-counts : (last : ℕ) (r : Received) (held : List Received) (first :
     → shape_in last r first ≡ shape_came r → is_among held r.head.index ≡ false → length held < r.head.shards
     → block_verdict last r held first ≡ made_block_whole (has_all (r ∷ held) (Some (first_or r first)))
 verdict-counts last r held first same missing few =
-    let same_is : not (is_same_shape (shape_in last r first) (shape_came r)) ≡ false = not_from_true _ (same-shape (shape_in last r first) (shape_came r) same) in
+    let same_is : not (is_same_shape (shape_in last r first) (shape_came r)) ≡ false =
+    not_from_true _ (same-shape (shape_in last r first) (shape_came r) same) in
     let made = made_block_whole (has_all (r ∷ held) (Some (first_or r first))) in
     let spare : Added = if nat_le r.head.shards (length held) then Spare else made in
     cond-false (not (is_same_shape (shape_in last r first) (shape_came r))) (Foreign (OtherShape (shape_in last r first) (shape_came r)))

@@ -1,5 +1,6 @@
 -- What a frame holds of what counts.
-use Rattle.std.specs.Prelude.{ℕ, ◌≡◌, ◌+◌, ◌<◌, ◌≤◌, Bool, true, not, ◌&&◌, List, [], ◌∷◌, length, Option, Some, nat_le, All, ◌==◌, if◌then◌else◌}
+use Rattle.std.specs.Prelude.{ℕ, ◌≡◌, ◌+◌, ◌<◌, ◌≤◌, Bool, true, not, ◌&&◌, List, [], ◌∷◌, length, Option, Some, nat_le}
+use Rattle.std.specs.Prelude.{All, ◌==◌, if◌then◌else◌}
 use Rattle.std.specs.List.{filter, slice_get}
 use Rattle.gs_rtp.specs.Stream.{StreamSettings}
 use Rattle.gs_frames.specs.declared.verdict.Added.{Added}
@@ -8,7 +9,8 @@ use Rattle.gs_frames.specs.declared.verdict.Why.TheVariants.{Shape as OtherShape
 use Rattle.gs_frames.specs.declared.verdict.Shape.{Shape}
 use Rattle.gs_frames.specs.Shards.{payload_of}
 use Rattle.gs_frames.specs.Received.{Received, oldest, is_of_block}
-use Rattle.gs_frames.specs.Verdict.{shape_came, shape_said, first_or, is_same_shape, is_repeat, is_spare, is_frame_whole, made_whole}
+use Rattle.gs_frames.specs.Verdict.{shape_came, shape_said, first_or, is_same_shape, is_repeat, is_spare}
+use Rattle.gs_frames.specs.Verdict.{is_frame_whole, made_whole}
 use Rattle.gs_frames.specs.Complete.{payloads}
 use Rattle.gs_fecqueue.specs.declared.block.Block.{Block}
 use Rattle.gs_fecqueue.specs.declared.frame.Frame.{Frame}

@@ -1,5 +1,6 @@
 -- The shards of a block that are held, the newest first, and how they stand in a room.
-use Rattle.std.specs.Prelude.{ℕ, ◌≡◌, ◌≢◌, ◌+◌, ◌<◌, ◌≤◌, Bool, false, List, length, drop, slice_index_or, All, AllPairs, ◌==◌}
+use Rattle.std.specs.Prelude.{ℕ, ◌≡◌, ◌≢◌, ◌+◌, ◌<◌, ◌≤◌, Bool, false, List, length, drop, slice_index_or, All}
+use Rattle.std.specs.Prelude.{AllPairs, ◌==◌}
 use Rattle.std.specs.List.{list_any}
 use Rattle.gs_rs.specs.Codeword.{shard_of}
 use Rattle.gs_rtp.specs.declared.video.VideoHead.{VideoHead}

@@ -1,5 +1,6 @@
 -- What a queue stands for: all that its client was given.
-use Rattle.std.specs.Prelude.{ℕ, ◌≡◌, ◌≢◌, ◌+◌, ◌-◌, ◌%◌, ◌<◌, ◌≤◌, Bool, true, ◌&&◌, ◌||◌, not, List, [], ◌∷◌, length, Option, Some, None, nat_lt, ◌==◌, if◌then◌else◌}
+use Rattle.std.specs.Prelude.{ℕ, ◌≡◌, ◌≢◌, ◌+◌, ◌-◌, ◌%◌, ◌<◌, ◌≤◌, Bool, true, ◌&&◌, ◌||◌, not, List, [], ◌∷◌, length}
+use Rattle.std.specs.Prelude.{Option, Some, None, nat_lt, ◌==◌, if◌then◌else◌}
 use Rattle.std.specs.List.{slice_get}
 use Rattle.gs_frames.specs.Client.{ClientSettings, Arrival}
 use Rattle.gs_frames.specs.Received.{Received, taken, greatest, is_left, oldest, is_of_frame}
@@ -8,7 +9,8 @@ use Rattle.gs_fecqueue.specs.declared.frame.Frame.{Frame}
 use Rattle.gs_fecqueue.specs.declared.queue.Queue.{Queue}
 use Rattle.gs_fecqueue.specs.FrameHolding.{HoldsFrame, IsBegun}
 
--- The image of a frame is at hand while it is open or, in a window of several frames, if it was before the last arrival.
+-- The image of a frame is at hand while it is open or, in a window of several frames, if it was before the last
+-- arrival.
 abbrev pub is_at_hand : ℕ → List Received → List Received → ℕ → Bool
 is_at_hand window before now frame =
     not (is_left window now frame) || (nat_lt 1 window && not (is_left window before frame))

@@ -1,5 +1,6 @@
 -- A capture file that is read as a run captures: what was captured, what of it is kept, what is still to be read.
-use Rattle.std.specs.Prelude.{◌≡◌, ℕ, ◌+◌, ◌-◌, ◌<◌, ◌≤◌, Bool, true, false, List, length, map, take, drop, Option, Some, None, Result, Ok, Err, IfSome, ⊤}
+use Rattle.std.specs.Prelude.{◌≡◌, ℕ, ◌+◌, ◌-◌, ◌<◌, ◌≤◌, Bool, true, false, List, length, map, take, drop, Option}
+use Rattle.std.specs.Prelude.{Some, None, Result, Ok, Err, IfSome, ⊤}
 use Rattle.std.specs.List.{All, range_with_len}
 use Rattle.gs_tape.specs.Tick.{Tick}
 use Rattle.gs_tape.specs.Limits.{most_ticks, IsTickWithinLimits}

@@ -1,5 +1,6 @@
 -- A frame that is complete is the one that was sent.
-use Rattle.std.proofs.Common.{◌≡◌, ◌≤◌, ◌+◌, ◌-◌, ◌*◌, ℕ, zero, suc, true, List, [], ◌++◌, length, get_or, take, Option, Some, None, refl, sym, ap, subst, ◌∙◌, arith}
+use Rattle.std.proofs.Common.{◌≡◌, ◌≤◌, ◌+◌, ◌-◌, ◌*◌, ℕ, zero, suc, true, List, [], ◌++◌, length, get_or, take, Option, Some, None, refl, sym, ap, subst, ◌∙◌}
+use Rattle.std.proofs.Common.{arith}
 use Rattle.std.specs.List.{All, slice_get, filter}
 use Rattle.std.proofs.lemmas.Bool.{eqb-true}
 use Rattle.std.proofs.lemmas.List.{take-append-drop, append_assoc, append-nil}
@@ -22,7 +23,8 @@ use Rattle.gs_frames.proofs.Plans.{plan_covers}
 use Rattle.gs_frames.proofs.PlanLimits.{IsWithinGrammar, ArePlans, fec_plan-within}
 use Rattle.gs_frames.proofs.FramesReceived.{packets-within, data_total, place_at}
 use Rattle.gs_frames.proofs.ShardForms.{frame_image-bytes}
-use Rattle.gs_frames.proofs.SentBlocks.{count_at, image_at, image_at-next, image_at-room, image_at-bytes, image_at-end, IsShardOf, IsFrom, blocks_from-are, blocks-are}
+use Rattle.gs_frames.proofs.SentBlocks.{count_at, image_at, image_at-next, image_at-room, image_at-bytes, image_at-end, IsShardOf, IsFrom, blocks_from-are}
+use Rattle.gs_frames.proofs.SentBlocks.{blocks-are}
 use Rattle.gs_frames.proofs.WholeBlocks.{AreOfSentBlock, block_payloads-sent}
 use Rattle.gs_frames.proofs.Fills.{counting-all}
 use Rattle.gs_frames.proofs.Members.{kept-each, first-each, comes-each, counting-distinct}

@@ -9,7 +9,8 @@ use Rattle.gs_gf256.specs.Field.{IsByte}
 use Rattle.gs_rs.specs.Shape.{video_code}
 use Rattle.gs_rtp.specs.Stream.{StreamSettings}
 use Rattle.gs_frames.specs.Shards.{payload_of, block_shards}
-use Rattle.gs_frames.specs.Datagrams.{datagram_of, Place, next_block, headed_shard, headed_shards, headed_blocks, plan_of, first_place, frame_shards, frame_datagrams}
+use Rattle.gs_frames.specs.Datagrams.{datagram_of, Place, next_block, headed_shard, headed_shards, headed_blocks, plan_of, first_place, frame_shards}
+use Rattle.gs_frames.specs.Datagrams.{frame_datagrams}
 use Rattle.gs_frames.specs.Image.{packets, most_packets, frame_image}
 use Rattle.gs_frames.specs.Plan.{BlockPlan}
 use Rattle.gs_frames.specs.Received.{Received, received}

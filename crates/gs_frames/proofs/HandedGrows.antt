@@ -1,5 +1,6 @@
 -- Which frames are handed, and what one more arrival hands.
-use Rattle.std.proofs.Common.{◌≡◌, ◌<◌, ◌≤◌, ◌+◌, ◌-◌, ℕ, suc, false, List, ◌∷◌, ◌++◌, length, Option, Some, None, refl, sym, ap, subst, ◌∙◌, arith, inl, inr, length-append}
+use Rattle.std.proofs.Common.{◌≡◌, ◌<◌, ◌≤◌, ◌+◌, ◌-◌, ℕ, suc, false, List, ◌∷◌, ◌++◌, length, Option, Some, None, refl, sym, ap, subst, ◌∙◌, arith, inl, inr}
+use Rattle.std.proofs.Common.{length-append}
 use Rattle.std.specs.Prelude.{nat_lt, is_some}
 use Rattle.std.specs.List.{Contains, filter, find}
 use Rattle.std.proofs.lemmas.Bool.{cases_lt, cond-false, ne_eqb, le-ltb, or_parts}
@@ -12,7 +13,8 @@ use Rattle.gs_frames.specs.Handed.{Handed, settled_at_resets, last_reset_before,
 use Rattle.gs_frames.specs.HandedLaws.{HandedFramesRise, IsToHand, HandedFramesAreExactly, ArrivalHandsNewFrames, ArrivalHandsFewFrames, ResetHandsNothing}
 use Rattle.gs_frames.proofs.Counting.{NoneOf-above, complete-other, complete-none, greatest-new, greatest-kept}
 use Rattle.gs_frames.proofs.SettledUp.{left-not_says, done-same, settled-within, settled-done, settled-next, settled-grows, settled_never_falls}
-use Rattle.gs_frames.proofs.HandedThrough.{RisesTo, through-rises, through-same, through-none, through-idle, through-length, above-none, through-split, through-below, IsAmong, among-from, among-is}
+use Rattle.gs_frames.proofs.HandedThrough.{RisesTo, through-rises, through-same, through-none, through-idle, through-length, above-none, through-split}
+use Rattle.gs_frames.proofs.HandedThrough.{through-below, IsAmong, among-from, among-is}
 use Rattle.gs_frames.proofs.Taken.{taken-more}
 
 pub handed-is : (c : ClientSettings) (came : List Arrival)

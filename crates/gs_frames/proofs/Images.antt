@@ -1,11 +1,13 @@
 -- The image of a frame, and what a reader of it finds.
-use Rattle.std.proofs.Common.{◌≡◌, ◌<◌, ◌≤◌, ◌+◌, ◌-◌, ◌*◌, ◌/◌, ◌%◌, ◌^◌, ℕ, Bool, true, ◌&&◌, ◌||◌, not, List, ◌∷◌, ◌++◌, length, take, drop, replicate, Some, None, refl, sym, ap, subst, ◌∙◌, arith, inl, inr, length-append}
+use Rattle.std.proofs.Common.{◌≡◌, ◌<◌, ◌≤◌, ◌+◌, ◌-◌, ◌*◌, ◌/◌, ◌%◌, ◌^◌, ℕ, Bool, true, ◌&&◌, ◌||◌, not, List, ◌∷◌, ◌++◌, length, take, drop, replicate, Some}
+use Rattle.std.proofs.Common.{None, refl, sym, ap, subst, ◌∙◌, arith, inl, inr, length-append}
 use Rattle.std.specs.Prelude.{slice_index, nat_le, ◌==◌, if◌then◌else◌}
 use Rattle.std.proofs.lemmas.Bool.{cond-true, cond-false, cases_lt, cases_eq, eq-eqb, ne_eqb, le-leb}
 use Rattle.std.proofs.lemmas.List.{length-replicate, take_at}
 use Rattle.std.proofs.lemmas.Nat.{div-mul-add, mod-mul-add}
 use Rattle.byteorder.specs.Numbers.{little_number-reads_back}
-use Rattle.gs_frames.specs.Image.{ceil_div, header_length, packets, last_length, frame_image, Frame, is_kind, kind_of, last_read, most_packets, is_frame_image, unit_length, frame_of}
+use Rattle.gs_frames.specs.Image.{ceil_div, header_length, packets, last_length, frame_image, Frame, is_kind, kind_of, last_read, most_packets, is_frame_image}
+use Rattle.gs_frames.specs.Image.{unit_length, frame_of}
 use Rattle.gs_frames.specs.ImageLaws.{IsWrittenKind}
 
 -- a number above 0, as whole parts of d and a last part that isn't empty

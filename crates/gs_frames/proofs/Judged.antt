@@ -8,7 +8,8 @@ use Rattle.gs_frames.specs.declared.verdict.Added.{Added}
 use Rattle.gs_frames.specs.declared.verdict.Added.TheVariants.{Foreign, Old, Repeat, Spare}
 use Rattle.gs_frames.specs.declared.verdict.Why.TheVariants.{Shape as OtherShape}
 use Rattle.gs_frames.specs.Received.{Received, greatest, is_left, oldest, is_of_frame, is_of_block}
-use Rattle.gs_frames.specs.Verdict.{shape_came, shape_had, is_same_shape, shape_said, first_or, is_repeat, is_spare, is_frame_whole, is_block_whole, made_whole, judged, is_counted, counting}
+use Rattle.gs_frames.specs.Verdict.{shape_came, shape_had, is_same_shape, shape_said, first_or, is_repeat, is_spare, is_frame_whole, is_block_whole, made_whole}
+use Rattle.gs_frames.specs.Verdict.{judged, is_counted, counting}
 
 -- ---- the five tests
 

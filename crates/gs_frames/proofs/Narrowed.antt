@@ -1,8 +1,10 @@
 -- A client with a window of one frame and no resets.
-use Rattle.std.proofs.Common.{◌≡◌, ◌<◌, ◌≤◌, ◌+◌, ◌-◌, ℕ, zero, suc, Bool, true, false, ◌&&◌, ◌||◌, not, List, [], ◌∷◌, ◌++◌, get_or, Option, Some, None, refl, sym, ap, ◌∙◌, arith, inl, inr}
+use Rattle.std.proofs.Common.{◌≡◌, ◌<◌, ◌≤◌, ◌+◌, ◌-◌, ℕ, zero, suc, Bool, true, false, ◌&&◌, ◌||◌, not, List, [], ◌∷◌, ◌++◌, get_or, Option, Some, None, refl}
+use Rattle.std.proofs.Common.{sym, ap, ◌∙◌, arith, inl, inr}
 use Rattle.std.specs.Prelude.{nat_lt, nat_le, ◌==◌, is_some, if◌then◌else◌}
 use Rattle.std.specs.List.{find, list_any, range_with_len}
-use Rattle.std.proofs.lemmas.Bool.{cases_Bool, cases_lt, cond-true, cond-false, and_left, and_right, and_from, eq-eqb, ne_eqb, le-leb, le-ltb, lt-ltb, or_left, or_right}
+use Rattle.std.proofs.lemmas.Bool.{cases_Bool, cases_lt, cond-true, cond-false, and_left, and_right, and_from, eq-eqb, ne_eqb, le-leb, le-ltb, lt-ltb, or_left}
+use Rattle.std.proofs.lemmas.Bool.{or_right}
 use Rattle.std.proofs.lemmas.Bool.Decides.{nat_tests}
 use Rattle.std.proofs.lemmas.List.{append-nil}
 use Rattle.std.proofs.lemmas.List.Folds.{list_any_none, list_any-append}
@@ -15,7 +17,9 @@ use Rattle.gs_frames.specs.Complete.{complete}
 use Rattle.gs_frames.specs.Settled.{is_done, settled}
 use Rattle.gs_frames.specs.Handed.{Handed, is_re_entry, is_barred, is_handed, hand_on, handed_through}
 use Rattle.gs_frames.specs.Asks.{lost_to, lost_by, as_list, asks_of}
-use Rattle.gs_frames.specs.Narrow.{narrow, narrow_taken, is_decodable, is_narrow_handed, handed_one, narrow_handed_through, narrow_handed_of, narrow_handed, first_lost, range_or_none, narrow_lost_by, narrow_asks_of, narrow_asks, NarrowClientIsClient, NarrowClientSettlesComplete, NoResetBarsNothing}
+use Rattle.gs_frames.specs.Narrow.{narrow, narrow_taken, is_decodable, is_narrow_handed, handed_one, narrow_handed_through, narrow_handed_of, narrow_handed}
+use Rattle.gs_frames.specs.Narrow.{first_lost, range_or_none, narrow_lost_by, narrow_asks_of, narrow_asks, NarrowClientIsClient, NarrowClientSettlesComplete}
+use Rattle.gs_frames.specs.Narrow.{NoResetBarsNothing}
 use Rattle.gs_frames.proofs.Counting.{NoneOf-above, complete-none}
 use Rattle.gs_frames.proofs.SettledUp.{left-from, left-not_from, done-above, settled-greatest, settled-unique, settled-within}
 use Rattle.gs_frames.proofs.HandedThrough.{RisesTo, through-zero, through-suc, through-rises}

@@ -1,5 +1,6 @@
 -- When the blocks of a frame are whole, and what the verdict says then.
-use Rattle.std.proofs.Common.{◌≡◌, ◌≤◌, ◌+◌, ℕ, zero, suc, Bool, true, false, ◌&&◌, List, [], ◌∷◌, length, map, get_or, Option, Some, None, refl, sym, ap, subst, ◌∙◌, arith, inl, inr}
+use Rattle.std.proofs.Common.{◌≡◌, ◌≤◌, ◌+◌, ℕ, zero, suc, Bool, true, false, ◌&&◌, List, [], ◌∷◌, length, map, get_or, Option, Some, None, refl, sym, ap}
+use Rattle.std.proofs.Common.{subst, ◌∙◌, arith, inl, inr}
 use Rattle.std.specs.Prelude.{nat_lt, ◌==◌, is_some, if◌then◌else◌}
 use Rattle.std.specs.List.{filter, list_all, range_with_len}
 use Rattle.std.proofs.lemmas.Bool.{cases_Bool, cases_eq, cond-true, cond-false, and_parts, eq-eqb, eqb-true, ne_eqb, ltb-true, both_ways, false_from_ne_true}
@@ -13,12 +14,15 @@ use Rattle.gs_frames.specs.declared.verdict.Why.TheVariants.{Shape as OtherShape
 use Rattle.gs_frames.specs.Image.{Frame}
 use Rattle.gs_frames.specs.Client.{ClientSettings, Arrival, Datagram}
 use Rattle.gs_frames.specs.Received.{Received, received, greatest, is_left, taken, oldest, is_of_frame, is_of_block}
-use Rattle.gs_frames.specs.Verdict.{shape_came, shape_had, is_same_shape, is_repeat, is_spare, has_all, is_block_whole, is_frame_whole, made_whole, judged, is_counted, counting, verdict}
+use Rattle.gs_frames.specs.Verdict.{shape_came, shape_had, is_same_shape, is_repeat, is_spare, has_all, is_block_whole, is_frame_whole, made_whole, judged}
+use Rattle.gs_frames.specs.Verdict.{is_counted, counting, verdict}
 use Rattle.gs_frames.specs.Complete.{block_payloads, both, payloads, image_behind, frame_in, complete}
-use Rattle.gs_frames.specs.VerdictLaws.{counting_of, are_whole, has_whole_blocks, MakesFrameWhole, FrameWholeIsExactly, WholeBlocksHaveImage, OnlyFrameWholeCompletes, OnlyOwnFrameCompletes}
+use Rattle.gs_frames.specs.VerdictLaws.{counting_of, are_whole, has_whole_blocks, MakesFrameWhole, FrameWholeIsExactly, WholeBlocksHaveImage}
+use Rattle.gs_frames.specs.VerdictLaws.{OnlyFrameWholeCompletes, OnlyOwnFrameCompletes}
 use Rattle.gs_frames.proofs.Judged.{same_frame, same_block, by_tests, judged-counts}
 use Rattle.gs_frames.proofs.Taken.{taken-some, taken-none}
-use Rattle.gs_frames.proofs.Counting.{oldest-kept, oldest-new, NoneOf, NoneOf-from_oldest, NoneOf-counting, oldest_of_block-none, complete-is, complete-other, complete-passed}
+use Rattle.gs_frames.proofs.Counting.{oldest-kept, oldest-new, NoneOf, NoneOf-from_oldest, NoneOf-counting, oldest_of_block-none, complete-is, complete-other}
+use Rattle.gs_frames.proofs.Counting.{complete-passed}
 use Rattle.gs_frames.proofs.CompleteStays.{AreCountsParts, counts-parts, complete_stays}
 use Rattle.gs_frames.proofs.Verdicts.{IsJudged, by_received, received-block, counted-not, counted-one}
 

@@ -1,5 +1,6 @@
 -- Which frames a client hands to its decoder.
-use Rattle.std.specs.Prelude.{ℕ, zero, suc, ◌+◌, Bool, true, ◌&&◌, ◌||◌, not, List, [], ◌∷◌, ◌++◌, Option, Some, None, nat_lt, ◌==◌, if◌then◌else◌}
+use Rattle.std.specs.Prelude.{ℕ, zero, suc, ◌+◌, Bool, true, ◌&&◌, ◌||◌, not, List, [], ◌∷◌, ◌++◌, Option, Some, None}
+use Rattle.std.specs.Prelude.{nat_lt, ◌==◌, if◌then◌else◌}
 use Rattle.std.specs.List.{filter, find, list_any}
 use Rattle.gs_frames.specs.Client.{ClientSettings, Arrival, Datagram, Reset}
 use Rattle.gs_frames.specs.Image.{Frame}

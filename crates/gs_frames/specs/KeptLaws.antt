@@ -1,5 +1,6 @@
 -- What a client keeps before it was given anything, and that it is enough to hand frames on.
-use Rattle.std.specs.Prelude.{ℕ, ◌≡◌, ◌<◌, ◌≤◌, ◌+◌, Bool, false, ◌&&◌, ◌||◌, not, List, [], nat_lt, All, AllPairs, ◌==◌}
+use Rattle.std.specs.Prelude.{ℕ, ◌≡◌, ◌<◌, ◌≤◌, ◌+◌, Bool, false, ◌&&◌, ◌||◌, not, List, [], nat_lt, All, AllPairs}
+use Rattle.std.specs.Prelude.{◌==◌}
 use Rattle.gs_frames.specs.Client.{ClientSettings, Arrival}
 use Rattle.gs_frames.specs.Received.{taken}
 use Rattle.gs_frames.specs.Settled.{settled}

@@ -1,5 +1,6 @@
 -- How a frame of n packets is parted into blocks of shards for the erasure code.
-use Rattle.std.specs.Prelude.{ℕ, ◌+◌, ◌-◌, ◌*◌, ◌/◌, Bool, ◌&&◌, List, [], ◌∷◌, ◌++◌, map, replicate, nat_lt, nat_le, if◌then◌else◌}
+use Rattle.std.specs.Prelude.{ℕ, ◌+◌, ◌-◌, ◌*◌, ◌/◌, Bool, ◌&&◌, List, [], ◌∷◌, ◌++◌, map, replicate, nat_lt, nat_le}
+use Rattle.std.specs.Prelude.{if◌then◌else◌}
 use Rattle.gs_rtp.specs.Limits.{most_last_block, most_shards_of_block}
 use Rattle.gs_rtp.specs.Video.{parity_count}
 use Rattle.gs_frames.specs.Image.{ceil_div}

@@ -1,14 +1,17 @@
 -- The verdict on a datagram, by what came before it and what of that counted; and what counts.
-use Rattle.std.specs.Prelude.{ℕ, ◌+◌, Bool, true, false, ◌&&◌, not, List, [], ◌∷◌, length, Option, Some, None, nat_le, ◌==◌, if◌then◌else◌}
+use Rattle.std.specs.Prelude.{ℕ, ◌+◌, Bool, true, false, ◌&&◌, not, List, [], ◌∷◌, length, Option, Some, None, nat_le}
+use Rattle.std.specs.Prelude.{◌==◌, if◌then◌else◌}
 use Rattle.std.specs.List.{filter, list_all, list_any, range_with_len}
 use Rattle.gs_rtp.specs.declared.video.VideoHead.{VideoHead}
 use Rattle.gs_rtp.specs.Video.{video_head}
 use Rattle.gs_frames.specs.declared.verdict.Added.{Added}
-use Rattle.gs_frames.specs.declared.verdict.Added.TheVariants.{Foreign, Old, Repeat, Spare, Added as Held, BlockWhole, FrameWhole}
+use Rattle.gs_frames.specs.declared.verdict.Added.TheVariants.{Foreign, Old, Repeat, Spare, Added as Held, BlockWhole}
+use Rattle.gs_frames.specs.declared.verdict.Added.TheVariants.{FrameWhole}
 use Rattle.gs_frames.specs.declared.verdict.Why.TheVariants.{Grammar, Ssrc, Shape as OtherShape}
 use Rattle.gs_frames.specs.declared.verdict.Shape.{Shape}
 use Rattle.gs_frames.specs.Client.{ClientSettings, Arrival}
-use Rattle.gs_frames.specs.Received.{Received, carried_shard, taken, greatest, is_left, oldest, is_of_frame, is_of_block}
+use Rattle.gs_frames.specs.Received.{Received, carried_shard, taken, greatest, is_left, oldest, is_of_frame}
+use Rattle.gs_frames.specs.Received.{is_of_block}
 
 -- what a datagram says of its frame and its block
 abbrev pub shape_came : Received → Shape

@@ -1,6 +1,7 @@
 -- The tables are what they are called: entry i of the one is 2 to the power i, and the other says at which place an
 -- element stands. Each is read once, by the checker.
-use Rattle.std.proofs.Common.{◌≡◌, ◌≢◌, ℕ, zero, suc, ◌+◌, ◌<◌, Bool, true, ◌&&◌, List, [], ◌∷◌, length, get_or, drop, lit<, ltb, eqb, ltb-true, eqb-true, refl, sym, ap, ◌∙◌, arith}
+use Rattle.std.proofs.Common.{◌≡◌, ◌≢◌, ℕ, zero, suc, ◌+◌, ◌<◌, Bool, true, ◌&&◌, List, [], ◌∷◌, length, get_or, drop, lit<, ltb, eqb, ltb-true, eqb-true, refl}
+use Rattle.std.proofs.Common.{sym, ap, ◌∙◌, arith}
 use Rattle.gs_gf256.specs.Field.{IsByte, polynomial_product, remainder, product}
 use Rattle.gs_gf256.specs.declared.tables.TheConstants.{POWERS, LOGARITHMS}
 use Rattle.gs_gf256.proofs.FieldLemmas.{product_assoc, product-one_r}

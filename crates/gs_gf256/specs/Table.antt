@@ -14,7 +14,8 @@ table_at rows i r = (i * rows + r) * 32
 -- A block of sums: at each place that of the bytes there of the numbered shards, each times the factor of its table in
 -- a row. The shards are laid end to end, each of len bytes, and the block begins at `at` in each.
 pub record IsRowOfSums
-    (shards : List ℕ) (len : ℕ) (numbers : List ℕ) (at : ℕ) (tables : List ℕ) (rows r : ℕ) (block : List ℕ) : Type 0 where
+    (shards : List ℕ) (len : ℕ) (numbers : List ℕ) (at : ℕ) (tables : List ℕ) (rows r : ℕ) (block : List ℕ)
+    : Type 0 where
   pub size : length block ≡ 32
   pub sums : (j : ℕ) → j < 32 → slice_index block j
       ≡ field_sum

@@ -1,5 +1,6 @@
 -- What a call of a host's end did, over a part that it stood for.
-use Rattle.std.specs.Prelude.{ℕ, ◌≡◌, ◌≤◌, ◌⊎◌, ◌∷◌, Bool, true, false, List, Option, Some, None, Ok, Err, ◌==◌, if◌then◌else◌}
+use Rattle.std.specs.Prelude.{ℕ, ◌≡◌, ◌≤◌, ◌⊎◌, ◌∷◌, Bool, true, false, List, Option, Some, None, Ok, Err, ◌==◌}
+use Rattle.std.specs.Prelude.{if◌then◌else◌}
 use Rattle.gs_tape.specs.Tick.{Tick}
 use Rattle.gs_refs.specs.declared.sent.Sent.{Sent}
 use Rattle.gs_refs.specs.declared.error.ChooseError.{ChooseError}

@@ -1,6 +1,7 @@
 -- Input packets: the number of the bytes after itself (4 bytes, the highest first), the magic that
 -- names the kind of event (4 bytes, the lowest first), and the body.
-use Rattle.std.specs.Prelude.{◌≡◌, ℕ, ℤ, ◌+◌, Bool, true, IsTrue, not, ◌&&◌, ◌||◌, ◌==◌, nat_le, if◌then◌else◌, List, [], ◌∷◌, ◌++◌, length, slice_index, Option, Some, None, ⊤}
+use Rattle.std.specs.Prelude.{◌≡◌, ℕ, ℤ, ◌+◌, Bool, true, IsTrue, not, ◌&&◌, ◌||◌, ◌==◌, nat_le, if◌then◌else◌, List}
+use Rattle.std.specs.Prelude.{[], ◌∷◌, ◌++◌, length, slice_index, Option, Some, None, ⊤}
 use Rattle.std.specs.Int.{w16, cast_signed, cast_unsigned}
 use Rattle.gs_bytes.specs.Field.{big_from, little_from, big_bytes, little_bytes}
 use Rattle.gs_input.specs.declared.event.Event.{Event}

@@ -1,6 +1,7 @@
 -- The law at work, at windows of one and two frames and behind resets: its premises are met, and it doesn't hold of just
 -- any frames.
-use Rattle.std.proofs.Common.{ℕ, ◌≡◌, ◌+◌, ◌-◌, ◌*◌, ◌^◌, ◌<◌, ◌≤◌, List, [], ◌∷◌, Option, Some, None, map, get_or, length, refl, replicate, arith, inl, lit<, lit≤, rules}
+use Rattle.std.proofs.Common.{ℕ, ◌≡◌, ◌+◌, ◌-◌, ◌*◌, ◌^◌, ◌<◌, ◌≤◌, List, [], ◌∷◌, Option, Some, None, map, get_or, length, refl, replicate, arith, inl, lit<}
+use Rattle.std.proofs.Common.{lit≤, rules}
 use Rattle.std.specs.List.{All, AllByRecursion}
 use Rattle.std.proofs.lemmas.List.Elements.{All-cons, All-nil, All-replicate, All-from_recursion, Contains-get_or}
 use Rattle.gs_rtp.specs.Stream.{StreamSettings}

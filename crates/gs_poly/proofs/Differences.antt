@@ -1,5 +1,6 @@
 -- Products of differences and of ratios of differences.
-use Rattle.std.proofs.Common.{◌≡◌, ◌≢◌, ℕ, zero, suc, ◌+◌, ◌-◌, ◌<◌, List, [], ◌∷◌, ◌++◌, length, take, drop, remove, get_or, All, bit_xor, lit<, sym, ap, ◌∙◌, subst, arith, inl, inr}
+use Rattle.std.proofs.Common.{◌≡◌, ◌≢◌, ℕ, zero, suc, ◌+◌, ◌-◌, ◌<◌, List, [], ◌∷◌, ◌++◌, length, take, drop, remove, get_or, All, bit_xor, lit<, sym, ap, ◌∙◌}
+use Rattle.std.proofs.Common.{subst, arith, inl, inr}
 use Rattle.std.specs.Int.Bits.{xor_self}
 use Rattle.std.proofs.lemmas.Bool.{cases_lt}
 use Rattle.std.proofs.lemmas.List.{get_or-take, get_or-drop, length-take, length-drop, length-append}
@@ -13,7 +14,8 @@ pub IsByte-difference_product : (qs : List ℕ) (x : ℕ) → All IsByte qs → 
 unfolding difference_product
 IsByte-difference_product [] x hs hx = lit< tt
 IsByte-difference_product (q ∷ qs) x hs hx =
-    IsByte-product (bit_xor x q) (difference_product qs x) (IsByte-xor x q hx (All-head IsByte q qs hs)) (IsByte-difference_product qs x (All-tail IsByte q qs hs) hx)
+    IsByte-product (bit_xor x q) (difference_product qs x) (IsByte-xor x q hx (All-head IsByte q qs hs))
+    (IsByte-difference_product qs x (All-tail IsByte q qs hs) hx)
 
 pub difference_product-append : (ps qs : List ℕ) (x : ℕ) → All IsByte ps → All IsByte qs → IsByte x
     → difference_product (ps ++ qs) x ≡ product (difference_product ps x) (difference_product qs x)
@@ -22,7 +24,8 @@ difference_product-append [] qs x hs ts hx = sym (product-one_l (difference_prod
 difference_product-append (p ∷ ps) qs x hs ts hx =
     let rest = All-tail IsByte p ps hs in
     ap (product (bit_xor x p)) (difference_product-append ps qs x rest ts hx)
-    ∙ sym (product_assoc (bit_xor x p) (difference_product ps x) (difference_product qs x) (IsByte-xor x p hx (All-head IsByte p ps hs)) (IsByte-difference_product ps x rest hx) (IsByte-difference_product qs x ts hx))
+    ∙ sym (product_assoc (bit_xor x p) (difference_product ps x) (difference_product qs x) (IsByte-xor x p hx (All-head IsByte p ps hs))
+    (IsByte-difference_product ps x rest hx) (IsByte-difference_product qs x ts hx))
 
 -- it is 0 at each of its points
 pub difference_product_at : (qs : List ℕ) (k x : ℕ) → k < length qs → get_or qs k 0 ≡ x → difference_product qs x ≡ 0
@@ -110,7 +113,8 @@ module _ (points : List ℕ) (i : ℕ) (given : ArePoints points) (inside : i < 
   pub length-others : suc (length (remove points i)) ≡ length points
   length-others = omega (arith, length-append (take i points) (drop (suc i) points), length-take i points, length-drop (suc i) points)
 
-  pub weight-quotient : (x : ℕ) → IsByte x → weight points i x ≡ quotient (difference_product (remove points i) x) (difference_product (remove points i) (get_or points i 0))
+  pub weight-quotient : (x : ℕ) → IsByte x
+      → weight points i x ≡ quotient (difference_product (remove points i) x) (difference_product (remove points i) (get_or points i 0))
   weight-quotient x hx = ratio_product-quotient (remove points i) (get_or points i 0) x bytes-others IsByte-point hx others-differ
 
   pub differences-ne-zero : difference_product (remove points i) (get_or points i 0) ≢ 0

@@ -1,5 +1,6 @@
 -- The polynomial through given points: the sum of the values, each times the polynomial that is the weight of its point.
-use Rattle.std.proofs.Common.{◌≡◌, ℕ, zero, suc, ◌<◌, ◌≤◌, List, [], ◌∷◌, length, get_or, remove, replicate, All, bit_xor, lit<, refl, sym, ap, ◌∙◌, subst, arith}
+use Rattle.std.proofs.Common.{◌≡◌, ℕ, zero, suc, ◌<◌, ◌≤◌, List, [], ◌∷◌, length, get_or, remove, replicate, All, bit_xor, lit<, refl, sym, ap, ◌∙◌, subst}
+use Rattle.std.proofs.Common.{arith}
 use Rattle.std.specs.Int.Bits.{xor_self}
 use Rattle.std.proofs.lemmas.List.{length-replicate}
 use Rattle.std.proofs.lemmas.List.Elements.{All-nil, All-cons, All-head, All-tail, All-replicate, All-from_get_or}
@@ -9,7 +10,9 @@ use Rattle.gs_gf256.proofs.FieldSums.{field_sum-zero, field_sum-suc, field_sum_o
 use Rattle.gs_gf256.proofs.Inverses.{IsByte-inverse}
 use Rattle.gs_poly.specs.Polynomial.{value, weight, weighted_sum, difference_product, ArePoints, PassesThrough}
 use Rattle.gs_poly.specs.PolynomialLaws.{InterpolationExists, InterpolationIsUnique, InterpolationIsWeightedSum}
-use Rattle.gs_poly.proofs.PolynomialLemmas.{value-nil, value-cons, IsByte-value, plus, value-plus, length-plus, bytes-plus, times, value-times, length-times, bytes-times, times_difference, value-times_difference, length-times_difference, bytes-times_difference, value-zeros, same_from_plus}
+use Rattle.gs_poly.proofs.PolynomialLemmas.{value-nil, value-cons, IsByte-value, plus, value-plus, length-plus, bytes-plus, times, value-times, length-times}
+use Rattle.gs_poly.proofs.PolynomialLemmas.{bytes-times, times_difference, value-times_difference, length-times_difference, bytes-times_difference, value-zeros}
+use Rattle.gs_poly.proofs.PolynomialLemmas.{same_from_plus}
 use Rattle.gs_poly.proofs.Differences.{IsByte-difference_product, bytes-others, length-others, weight-quotient, weight_at_own, weight_at_other}
 use Rattle.gs_poly.proofs.Roots.{roots_are_few}
 

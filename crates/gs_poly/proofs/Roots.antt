@@ -51,7 +51,8 @@ divided c (d ∷ ds) x p hs hx hp =
     -- x * v + p * w = (x - p) * w + x * (x - p) * q
     let a : product x v ≡ bit_xor (product x w) (product (bit_xor x p) (product x q)) =
     ap (product x) v_is ∙ product-xor_r x w (product (bit_xor x p) q)
-    ∙ ap (bit_xor (product x w)) (sym (product_assoc x (bit_xor x p) q hx hxp hq) ∙ ap (λ z. product z q) (product_comm x (bit_xor x p) hx hxp) ∙ product_assoc (bit_xor x p) x q hxp hx hq) in
+    ∙ ap (bit_xor (product x w)) (sym (product_assoc x (bit_xor x p) q hx hxp hq) ∙ ap (λ z. product z q) (product_comm x (bit_xor x p) hx hxp)
+    ∙ product_assoc (bit_xor x p) x q hxp hx hq) in
     let xw = product x w in
     let pw = product p w in
     let r = product (bit_xor x p) (product x q) in

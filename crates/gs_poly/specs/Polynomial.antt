@@ -1,4 +1,5 @@
--- Polynomials over GF(2^8), each as the list of its coefficients, lowest first. One of degree below D is a list of D bytes.
+-- Polynomials over GF(2^8), each as the list of its coefficients, lowest first. One of degree below D is a list of D
+-- bytes.
 use Rattle.std.specs.Prelude.{◌≡◌, ◌≢◌, ℕ, ◌<◌, List, [], ◌∷◌, length, All, AllPairs, remove, slice_index, bit_xor}
 use Rattle.gs_gf256.specs.Field.{IsByte, product, quotient, field_sum}
 

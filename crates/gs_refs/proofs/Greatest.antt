@@ -18,7 +18,9 @@ NoneAbove h t low = (v : ℕ) → low < v → is_usable h t v ≡ false
 pub greatest-some : (h : List Entry) (t : Tick) (v n : ℕ) → 1 ≤ v → v ≤ n → is_usable h t v ≡ true → NoneAbove h t v → greatest_named h t n ≡ Some v
 greatest-some h t v zero least most usable above = absurd (omega arith)
 greatest-some h t v (suc n) least most usable above = elim (cases_eq v (suc n)) [
-  | inl last ↦ subst (λ (k : ℕ). is_usable h t k ≡ true → greatest_named h t (suc n) ≡ Some k) (sym last) (λ u. cond-true (is_usable h t (suc n)) (Some (suc n)) (greatest_named h t n) u) usable
+  | inl last ↦
+      subst (λ (k : ℕ). is_usable h t k ≡ true → greatest_named h t (suc n) ≡ Some k) (sym last)
+      (λ u. cond-true (is_usable h t (suc n)) (Some (suc n)) (greatest_named h t n) u) usable
   | inr before ↦
       cond-false (is_usable h t (suc n)) (Some (suc n)) (greatest_named h t n) (above (suc n) (omega arith))
       ∙ greatest-some h t v n least (omega arith) usable above

@@ -4,7 +4,8 @@ use Rattle.std.specs.Prelude.{◌==◌}
 use Rattle.std.proofs.lemmas.Bool.{cond-true, cond-false, cases_Bool, eq-eqb, ne_eqb, eqb-true, or_cases}
 use Rattle.gs_refs.specs.declared.entry.Entry.{Entry}
 use Rattle.gs_refs.specs.declared.entry.Entry.TheVariants.{Sent, Invalid, IdrAsked, Ended}
-use Rattle.gs_refs.specs.History.{frames, SentFrame, refers, where_it_refers, sent_as, sent_frame, tick_or_zero, tick_of, kind_or_zero, frame_kind, reference_or_none, reference_of}
+use Rattle.gs_refs.specs.History.{frames, SentFrame, refers, where_it_refers, sent_as, sent_frame, tick_or_zero, tick_of, kind_or_zero, frame_kind}
+use Rattle.gs_refs.specs.History.{reference_or_none, reference_of}
 
 -- ---- the frame that was sent last, and those before it
 

@@ -1,5 +1,6 @@
 -- What is kept beside a history, as it grows.
-use Rattle.std.proofs.Common.{◌≡◌, ◌<◌, ◌+◌, ℕ, ℤ, Bool, true, false, not, ◌&&◌, ◌||◌, List, [], ◌∷◌, ◌++◌, reverse, Option, Some, None, is_some, refl, sym, ap, subst, ◌∙◌, arith, inl, inr}
+use Rattle.std.proofs.Common.{◌≡◌, ◌<◌, ◌+◌, ℕ, ℤ, Bool, true, false, not, ◌&&◌, ◌||◌, List, [], ◌∷◌, ◌++◌, reverse, Option, Some, None, is_some, refl, sym, ap}
+use Rattle.std.proofs.Common.{subst, ◌∙◌, arith, inl, inr}
 use Rattle.std.specs.Prelude.{T, ◌==◌, if◌then◌else◌, nat_le, int_le, unsigned_abs, pos, negsuc, ◌≤ℤ◌}
 use Rattle.std.proofs.lemmas.Bool.{cond-true, cond-false, cases_Bool, and_parts, and_from, leb-true, eq-eqb, ne_eqb, false≢true}
 use Rattle.std.proofs.lemmas.List.{reverse-append}
@@ -154,16 +155,19 @@ true_from false holds = absurd holds
 range_false : (sent : ℕ) (first last : ℤ) → is_range_sent sent first last ≡ false → pos 1 ≤ℤ first → first ≤ℤ last → last ≤ℤ pos sent → ⊥
 range_false sent first last is one rise within =
     false≢true (sym is ∙ and_from (int_le (pos 1) first && int_le first last) (int_le last (pos sent))
-    (and_from (int_le (pos 1) first) (int_le first last) (true_from (int_le (pos 1) first) one.le) (true_from (int_le first last) rise.le)) (true_from (int_le last (pos sent)) within.le))
+    (and_from (int_le (pos 1) first) (int_le first last) (true_from (int_le (pos 1) first) one.le) (true_from (int_le first last) rise.le))
+    (true_from (int_le last (pos sent)) within.le))
 
 pub legal-named : (ticks : List Tick) (h : List Entry) (first last : ℤ) → IsLegal ticks h → has_ended h ≡ false
     → IsLegal ticks (named_range (frames h) first last ∷ h)
 legal-named ticks h first last legal on = elim (cases_Bool (is_range_sent (frames h) first last)) [
   | inl is ↦
-      subst (λ (e : Entry). IsLegal ticks (e ∷ h)) (sym (cond-true (is_range_sent (frames h) first last) (Invalid (unsigned_abs first) (unsigned_abs last)) (Ended first last) is))
+      subst (λ (e : Entry). IsLegal ticks (e ∷ h))
+      (sym (cond-true (is_range_sent (frames h) first last) (Invalid (unsigned_abs first) (unsigned_abs last)) (Ended first last) is))
       (legal, on, range_true (frames h) first last is)
   | inr is_not ↦
-      subst (λ (e : Entry). IsLegal ticks (e ∷ h)) (sym (cond-false (is_range_sent (frames h) first last) (Invalid (unsigned_abs first) (unsigned_abs last)) (Ended first last) is_not))
+      subst (λ (e : Entry). IsLegal ticks (e ∷ h))
+      (sym (cond-false (is_range_sent (frames h) first last) (Invalid (unsigned_abs first) (unsigned_abs last)) (Ended first last) is_not))
       (legal, on, range_false (frames h) first last is_not)
 ]
 

@@ -1,7 +1,9 @@
 -- The newest valid frames of a history, as it grows.
-use Rattle.std.proofs.Common.{◌≡◌, ◌≢◌, ◌<◌, ◌≤◌, ◌+◌, ◌-◌, ℕ, ℤ, zero, suc, true, false, not, ◌&&◌, ◌||◌, List, [], ◌∷◌, ◌++◌, length, take, drop, Option, Some, None, refl, sym, ap, subst, ◌∙◌, arith, inl, inr}
+use Rattle.std.proofs.Common.{◌≡◌, ◌≢◌, ◌<◌, ◌≤◌, ◌+◌, ◌-◌, ℕ, ℤ, zero, suc, true, false, not, ◌&&◌, ◌||◌, List, [], ◌∷◌, ◌++◌, length, take, drop, Option}
+use Rattle.std.proofs.Common.{Some, None, refl, sym, ap, subst, ◌∙◌, arith, inl, inr}
 use Rattle.std.specs.Prelude.{◌==◌, nat_lt, slice_get, min, if◌then◌else◌}
-use Rattle.std.proofs.lemmas.Bool.{cond-true, cond-false, cases_Bool, cases_eq, cases_lt, and_parts, and_from, and_left, and_right, eq-eqb, ne_eqb, lt-ltb, le-ltb, le-leb, lt-leb, leb-true, leb-false, false≢true}
+use Rattle.std.proofs.lemmas.Bool.{cond-true, cond-false, cases_Bool, cases_eq, cases_lt, and_parts, and_from, and_left, and_right, eq-eqb, ne_eqb, lt-ltb}
+use Rattle.std.proofs.lemmas.Bool.{le-ltb, le-leb, lt-leb, leb-true, leb-false, false≢true}
 use Rattle.std.proofs.lemmas.List.{length-append}
 use Rattle.circular_buffer.specs.Buffer.{keep_last, last_item}
 use Rattle.gs_tape.specs.Tick.{Tick}
@@ -230,7 +232,10 @@ pushed_full h kind reference watermark capacity x xs c other e full keeps =
 pub pushed : (h : List Entry) (kind reference watermark capacity : ℕ) (items : List Candidate) (c : Candidate) → kind ≢ 2 → c.frame ≡ frames h + 1
     → 1 ≤ capacity → length items ≤ capacity → KeepsValid h (record { frames = items; watermark = watermark })
     → KeepsValid (Sent c.tick kind reference ∷ h)
-    (record { frames = keep_last capacity (items ++ c ∷ []); watermark = frame_or (if nat_lt (length items) capacity then None else slice_get (items ++ c ∷ []) 0) watermark })
+    (record {
+      frames = keep_last capacity (items ++ c ∷ []);
+      watermark = frame_or (if nat_lt (length items) capacity then None else slice_get (items ++ c ∷ []) 0) watermark;
+    })
 pushed h kind reference watermark capacity [] c other e some within keeps =
     let P : ℕ → Type 0 = λ w. KeepsValid (Sent c.tick kind reference ∷ h) (record { frames = keep_last capacity (c ∷ []); watermark = w }) in
     let same = cond-true (nat_lt 0 capacity) None (slice_get (c ∷ []) 0) (lt-ltb 0 capacity some) in
@@ -240,7 +245,8 @@ pushed h kind reference watermark capacity (x ∷ xs) c other e some within keep
     elim (cases_lt (length (x ∷ xs)) capacity) [
       | inl room ↦
           let same = cond-true (nat_lt (length (x ∷ xs)) capacity) None (Some x) (lt-ltb (length (x ∷ xs)) capacity room) in
-          subst P (sym (ap (λ (o : Option Candidate). frame_or o watermark) same)) (pushed_room h kind reference watermark capacity (x ∷ xs) c other e room keeps)
+          subst P (sym (ap (λ (o : Option Candidate). frame_or o watermark) same))
+          (pushed_room h kind reference watermark capacity (x ∷ xs) c other e room keeps)
       | inr full ↦
           let same = cond-false (nat_lt (length (x ∷ xs)) capacity) None (Some x) (le-ltb (length (x ∷ xs)) capacity full) in
           subst P (sym (ap (λ (o : Option Candidate). frame_or o watermark) same))
@@ -276,7 +282,8 @@ below-pop h low first cs is all = by_last (last_item cs) refl
 
 -- the frames from the first on were taken out
 pub dropped : (h : List Entry) (first last watermark : ℕ) (cs : List Candidate) (old : Kept) → KeepsValid h old → watermark ≡ old.watermark
-    → AreValidBelow h watermark first cs → reaches first cs ≡ false → KeepsValid (Invalid first last ∷ h) (record { frames = cs; watermark = min watermark (first - 1) })
+    → AreValidBelow h watermark first cs → reaches first cs ≡ false
+    → KeepsValid (Invalid first last ∷ h) (record { frames = cs; watermark = min watermark (first - 1) })
 dropped h first last watermark cs old keeps same all short = record {
   above = above-invalid h first last watermark cs all short;
   below = omega (arith, keeps.below, same);

@@ -1,5 +1,6 @@
 -- A history is walked from its newest entry back.
-use Rattle.std.proofs.Common.{◌≡◌, ◌≢◌, ◌⊎◌, ◌<◌, ◌≤◌, ◌+◌, ◌-◌, ℕ, ℤ, Bool, true, false, ◌&&◌, List, [], ◌∷◌, length, get_or, take, reverse, Some, None, refl, sym, ap, ◌∙◌, arith, inl, inr}
+use Rattle.std.proofs.Common.{◌≡◌, ◌≢◌, ◌⊎◌, ◌<◌, ◌≤◌, ◌+◌, ◌-◌, ℕ, ℤ, Bool, true, false, ◌&&◌, List, [], ◌∷◌, length, get_or, take, reverse, Some, None, refl}
+use Rattle.std.proofs.Common.{sym, ap, ◌∙◌, arith, inl, inr}
 use Rattle.std.specs.Prelude.{nat_lt, nat_le, min}
 use Rattle.std.proofs.lemmas.Bool.{cases_Bool, cases_eq, cases_lt, and_from, and_left, and_right, lt-ltb, le-ltb, le-leb, lt-leb}
 use Rattle.std.proofs.lemmas.List.{take_more, reverse-append}
@@ -51,7 +52,8 @@ walked-all h t greatest walked = greatest-none h t (frames h) walked.above
 abbrev pub Passes : Tick → ℕ → ℕ → ℕ → Type 0
 Passes t tick frame greatest = (greatest < frame) ⊎ (names t tick ≡ false)
 
-module _ (h : List Entry) (t : Tick) (tick kind reference : ℕ) (rest : List Entry) (greatest : ℕ) (walked : Walked h t (Sent tick kind reference ∷ rest) greatest) where
+module _ (h : List Entry) (t : Tick) (tick kind reference : ℕ) (rest : List Entry) (greatest : ℕ)
+    (walked : Walked h t (Sent tick kind reference ∷ rest) greatest) where
   its_tick : tick_of h (frames rest + 1) ≡ tick
   its_tick = walked.ticks (frames rest + 1) (omega arith) ∙ tick_of-sent rest tick kind reference (frames rest + 1) refl
 
@@ -105,7 +107,8 @@ both_limits : (v greatest first : ℕ) → 1 ≤ v → (nat_le v greatest && nat
 both_limits v greatest first least = elim (cases_lt greatest v) [
   | inl over ↦ and_left (nat_le v greatest) (nat_lt v first) (lt-leb v greatest over) ∙ sym (lt-leb v (min greatest (first - 1)) (omega arith))
   | inr within ↦ elim (cases_lt v first) [
-    | inl below ↦ and_from (nat_le v greatest) (nat_lt v first) (le-leb v greatest within) (lt-ltb v first below) ∙ sym (le-leb v (min greatest (first - 1)) (omega arith))
+    | inl below ↦ and_from (nat_le v greatest) (nat_lt v first) (le-leb v greatest within) (lt-ltb v first below)
+        ∙ sym (le-leb v (min greatest (first - 1)) (omega arith))
     | inr reached ↦ and_right (nat_le v greatest) (nat_lt v first) (le-ltb v first reached) ∙ sym (lt-leb v (min greatest (first - 1)) (omega arith))
   ]
 ]

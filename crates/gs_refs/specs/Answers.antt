@@ -1,5 +1,6 @@
 -- What the calls on a session's references answer.
-use Rattle.std.specs.Prelude.{ℕ, ◌+◌, ℤ, pos, int_le, unsigned_abs, Bool, ◌&&◌, List, Result, Ok, Err, nat_lt, if◌then◌else◌}
+use Rattle.std.specs.Prelude.{ℕ, ◌+◌, ℤ, pos, int_le, unsigned_abs, Bool, ◌&&◌, List, Result, Ok, Err, nat_lt}
+use Rattle.std.specs.Prelude.{if◌then◌else◌}
 use Rattle.gs_tape.specs.Tick.{Tick}
 use Rattle.gs_refs.specs.declared.entry.Entry.{Entry}
 use Rattle.gs_refs.specs.declared.entry.Entry.TheVariants as entry

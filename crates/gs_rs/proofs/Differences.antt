@@ -1,5 +1,6 @@
 -- The product of the differences of a point to others, and a point's weight by two such products.
-use Rattle.std.proofs.Common.{◌≡◌, ◌≢◌, ℕ, zero, suc, ◌+◌, ◌<◌, ◌≤◌, List, [], ◌∷◌, cond, eqb, length, get_or, take, drop, subst, sym, ap, ◌∙◌, refl, bit_xor, arith, inl, inr, lit<}
+use Rattle.std.proofs.Common.{◌≡◌, ◌≢◌, ℕ, zero, suc, ◌+◌, ◌<◌, ◌≤◌, List, [], ◌∷◌, cond, eqb, length, get_or, take, drop, subst, sym, ap, ◌∙◌, refl, bit_xor}
+use Rattle.std.proofs.Common.{arith, inl, inr, lit<}
 use Rattle.std.specs.List.{All, AllPairs, remove}
 use Rattle.std.proofs.lemmas.Bool.{cases_eq, eq-eqb, ne_eqb}
 use Rattle.std.proofs.lemmas.List.Elements.{All-head, All-tail, All-append, All-take, All-drop}

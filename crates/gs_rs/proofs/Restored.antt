@@ -8,7 +8,8 @@ use Rattle.gs_gf256.specs.Field.{IsByte}
 use Rattle.gs_rs.specs.declared.shape.CodeShape.{CodeShape}
 use Rattle.gs_rs.specs.Shape.{IsCode, shard_count}
 use Rattle.gs_rs.specs.Codeword.{shard_of}
-use Rattle.gs_rs.specs.Restore.{IsPresent, count_present, data_of, AreLowestPresent, AgreesWhereChosen, RestoresAbsent, RestoresEachBlock, RestoresSomeBlock, KeepsOthers}
+use Rattle.gs_rs.specs.Restore.{IsPresent, count_present, data_of, AreLowestPresent, AgreesWhereChosen, RestoresAbsent, RestoresEachBlock, RestoresSomeBlock}
+use Rattle.gs_rs.specs.Restore.{KeepsOthers}
 use Rattle.gs_rs.specs.Laws.{AreEnough}
 use Rattle.gs_rs.proofs.Blocks.{in_shards, same_shards, bytes_of_same_shard, enough_have}
 use Rattle.gs_rs.proofs.Present.{present_in_range, rank_le}

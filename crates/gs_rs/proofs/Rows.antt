@@ -1,5 +1,6 @@
 -- The parity rows give the bytes of a codeword: the point form and the row form are one.
-use Rattle.std.proofs.Common.{◌≡◌, ◌≢◌, ℕ, ◌+◌, ◌-◌, ◌<◌, ◌≤◌, List, true, eqb, ltb, length, get_or, map, sym, ap, ◌∙◌, subst, refl, bit_xor, arith, inl, inr, lit<, lit≤}
+use Rattle.std.proofs.Common.{◌≡◌, ◌≢◌, ℕ, ◌+◌, ◌-◌, ◌<◌, ◌≤◌, List, true, eqb, ltb, length, get_or, map, sym, ap, ◌∙◌, subst, refl, bit_xor, arith, inl, inr}
+use Rattle.std.proofs.Common.{lit<, lit≤}
 use Rattle.std.specs.List.{All, range_with_len}
 use Rattle.std.specs.Int.Bits.{xor_comm}
 use Rattle.std.proofs.lemmas.Bool.{eqb-true, ltb-true, cases_lt}

@@ -1,7 +1,9 @@
 -- What a write to one shard leaves, and one more term of a sum.
-use Rattle.std.proofs.Common.{◌≡◌, ◌≢◌, ℕ, ◌+◌, ◌-◌, ◌*◌, ◌<◌, ◌≤◌, ◌⊎◌, List, length, get_or, replicate, take, drop, ◌++◌, sym, ap, ◌∙◌, bit_xor, arith, inl, inr}
+use Rattle.std.proofs.Common.{◌≡◌, ◌≢◌, ℕ, ◌+◌, ◌-◌, ◌*◌, ◌<◌, ◌≤◌, ◌⊎◌, List, length, get_or, replicate, take, drop, ◌++◌, sym, ap, ◌∙◌, bit_xor, arith, inl}
+use Rattle.std.proofs.Common.{inr}
 use Rattle.std.proofs.lemmas.Bool.{cases_order}
-use Rattle.std.proofs.lemmas.List.{get_or-take, get_or-drop, length-take-le, get_or_append_left, get_or-append_right, get_or-replicate, take-append-le, drop-append-le, length-drop, append_assoc}
+use Rattle.std.proofs.lemmas.List.{get_or-take, get_or-drop, length-take-le, get_or_append_left, get_or-append_right, get_or-replicate, take-append-le}
+use Rattle.std.proofs.lemmas.List.{drop-append-le, length-drop, append_assoc}
 use Rattle.std.proofs.lemmas.Nat.{row_fits}
 use borrow.Rule.Slice.PartMut.{put_mid, post_of}
 use Rattle.gs_gf256.specs.Field.{product, field_sum}

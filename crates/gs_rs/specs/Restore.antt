@@ -1,5 +1,6 @@
 -- Which shards a block is restored from, and what it then holds.
-use Rattle.std.specs.Prelude.{◌≡◌, ℕ, ◌*◌, ◌<◌, ◌≤◌, ◌⊎◌, List, Bool, false, take, slice_index, slice_index_or, count_by, All, IsTrue}
+use Rattle.std.specs.Prelude.{◌≡◌, ℕ, ◌*◌, ◌<◌, ◌≤◌, ◌⊎◌, List, Bool, false, take, slice_index, slice_index_or}
+use Rattle.std.specs.Prelude.{count_by, All, IsTrue}
 use Rattle.gs_rs.specs.declared.shape.CodeShape.{CodeShape}
 use Rattle.gs_rs.specs.Shape.{shard_count}
 use Rattle.gs_rs.specs.Codeword.{IsBlock, shard_of}

@@ -1,5 +1,6 @@
 -- The two erasure codes, by their counts of shards and by the points at which their shards stand.
-use Rattle.std.specs.Prelude.{◌≡◌, ℕ, ◌+◌, ◌-◌, ◌<◌, ◌≤◌, List, [], ◌∷◌, map, if◌then◌else◌, ◌==◌, nat_lt, slice_index, bit_xor}
+use Rattle.std.specs.Prelude.{◌≡◌, ℕ, ◌+◌, ◌-◌, ◌<◌, ◌≤◌, List, [], ◌∷◌, map, if◌then◌else◌, ◌==◌, nat_lt, slice_index}
+use Rattle.std.specs.Prelude.{bit_xor}
 use Rattle.std.specs.List.{range_with_len}
 use Rattle.gs_gf256.specs.Field.{product, inverse}
 use Rattle.gs_rs.specs.declared.shape.Form.TheVariants.{Video, Audio}

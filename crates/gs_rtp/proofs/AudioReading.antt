@@ -1,5 +1,6 @@
 -- What a reader of a written audio header finds.
-use Rattle.std.proofs.Common.{eq-eqb, ◌≡◌, ◌≢◌, if◌then◌else◌, ◌<◌, ◌+◌, ◌*◌, ◌/◌, ◌%◌, ◌^◌, ◌⊎◌, ℕ, Bool, true, false, List, [], ◌++◌, length, refl, ◌∙◌, arith, inl, inr}
+use Rattle.std.proofs.Common.{eq-eqb, ◌≡◌, ◌≢◌, if◌then◌else◌, ◌<◌, ◌+◌, ◌*◌, ◌/◌, ◌%◌, ◌^◌, ◌⊎◌, ℕ, Bool, true, false, List, [], ◌++◌, length, refl, ◌∙◌}
+use Rattle.std.proofs.Common.{arith, inl, inr}
 use Rattle.std.proofs.lemmas.Bool.Decides.{nat_tests}
 use Rattle.std.specs.Prelude.{◌==◌, ◌&&◌, not, nat_lt, slice_index}
 use Rattle.byteorder.specs.Endian.{big_from}

@@ -1,11 +1,13 @@
 -- What a reader of a written video header finds.
-use Rattle.std.proofs.Common.{◌≡◌, eq-eqb, if◌then◌else◌, ◌≤◌, ◌<◌, ◌+◌, ◌/◌, ◌%◌, ◌^◌, ℕ, Bool, true, false, List, [], ◌++◌, length, refl, sym, ap, subst, ◌∙◌, arith, rules, Some, None}
+use Rattle.std.proofs.Common.{◌≡◌, eq-eqb, if◌then◌else◌, ◌≤◌, ◌<◌, ◌+◌, ◌/◌, ◌%◌, ◌^◌, ℕ, Bool, true, false, List, [], ◌++◌, length, refl, sym, ap, subst, ◌∙◌}
+use Rattle.std.proofs.Common.{arith, rules, Some, None}
 use Rattle.std.specs.Prelude.{IsTrue, slice_index}
 use Rattle.std.proofs.lemmas.Bool.Decides.{nat_tests}
 use Rattle.byteorder.specs.Endian.{big_from, little_from}
 use Rattle.byteorder.specs.Numbers.{big_number-reads_back, little_number-reads_back}
 use Rattle.gs_rtp.specs.declared.video.VideoHead.{VideoHead}
-use Rattle.gs_rtp.specs.Video.{IsVideoHead, is_video_head, FitsHeadTypes, block_byte, fec_info, video_header, short_video_header, fields_after, video_fields, is_video_datagram, IsVideoBytes, video_head}
+use Rattle.gs_rtp.specs.Video.{IsVideoHead, is_video_head, FitsHeadTypes, block_byte, fec_info, video_header, short_video_header, fields_after, video_fields}
+use Rattle.gs_rtp.specs.Video.{is_video_datagram, IsVideoBytes, video_head}
 use Rattle.gs_rtp.proofs.VideoHeads.{IsVideoHead-index}
 
 -- what the test of a head says

@@ -1,6 +1,7 @@
 -- The header of an audio datagram: the fixed header of RTP (RFC 3550, section 5.1), and behind it, for
 -- parity, twelve bytes that name the shard and the block.
-use Rattle.std.specs.Prelude.{ℕ, ◌≡◌, ◌+◌, ◌*◌, ◌/◌, ◌%◌, ◌^◌, ◌<◌, ◌≢◌, List, ◌∷◌, ◌++◌, length, slice_index, Bool, true, false, ◌&&◌, not, nat_lt, ◌==◌, if◌then◌else◌, Option, Some, None}
+use Rattle.std.specs.Prelude.{ℕ, ◌≡◌, ◌+◌, ◌*◌, ◌/◌, ◌%◌, ◌^◌, ◌<◌, ◌≢◌, List, ◌∷◌, ◌++◌, length, slice_index, Bool}
+use Rattle.std.specs.Prelude.{true, false, ◌&&◌, not, nat_lt, ◌==◌, if◌then◌else◌, Option, Some, None}
 use Rattle.byteorder.specs.Endian.{big_bytes, big_from}
 use Rattle.gs_rtp.specs.declared.audio.AudioHead.{AudioHead}
 use Rattle.gs_rtp.specs.Stream.{StreamSettings, AreSettingsWithinLimits}

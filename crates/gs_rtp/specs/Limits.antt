@@ -1,6 +1,9 @@
 -- The limits of a stream's settings and of the head of a video datagram.
 use Rattle.std.specs.Prelude.{ℕ}
-use Rattle.gs_rtp.specs.declared.limits.TheConstants.{PACKET_LEAST, PACKET_GREATEST, PERCENTAGE_GREATEST, MINIMUM_GREATEST, FPS_LEAST, FPS_GREATEST, DURATION_SHORT, DURATION_LONG, SSRC_LEAST, SSRC_GREATEST, FRAME_GREATEST, LAST_BLOCK_GREATEST, SHARDS_GREATEST, CODE_SHARDS_GREATEST}
+use Rattle.gs_rtp.specs.declared.limits.TheConstants.{PACKET_LEAST, PACKET_GREATEST, PERCENTAGE_GREATEST}
+use Rattle.gs_rtp.specs.declared.limits.TheConstants.{MINIMUM_GREATEST, FPS_LEAST, FPS_GREATEST, DURATION_SHORT}
+use Rattle.gs_rtp.specs.declared.limits.TheConstants.{DURATION_LONG, SSRC_LEAST, SSRC_GREATEST, FRAME_GREATEST}
+use Rattle.gs_rtp.specs.declared.limits.TheConstants.{LAST_BLOCK_GREATEST, SHARDS_GREATEST, CODE_SHARDS_GREATEST}
 
 -- the packet size in bytes
 abbrev pub least_packet : ℕ

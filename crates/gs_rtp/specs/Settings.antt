@@ -1,7 +1,8 @@
 -- The limits of a stream's settings.
 use Rattle.std.specs.Prelude.{◌≡◌, ◌≤◌, ◌⊎◌, ℕ}
 use Rattle.gs_bytes.specs.Limits.{most_audio}
-use Rattle.gs_rtp.specs.Limits.{least_packet, most_packet, most_percentage, most_minimum, least_fps, most_fps, short_duration, long_duration, least_ssrc, most_ssrc}
+use Rattle.gs_rtp.specs.Limits.{least_packet, most_packet, most_percentage, most_minimum, least_fps, most_fps}
+use Rattle.gs_rtp.specs.Limits.{short_duration, long_duration, least_ssrc, most_ssrc}
 
 -- packet size in bytes, percentage of parity and least number of parity shards of a block, frames per
 -- second, duration of an audio unit in milliseconds and its length in bytes, and the session's number

@@ -1,6 +1,8 @@
 -- The header of a video datagram: 16 bytes of RTP (the fixed header of RFC 3550, section 5.1, and four
 -- reserved bytes), and 16 bytes that place the datagram's shard in its frame.
-use Rattle.std.specs.Prelude.{◌≡◌, ◌↔◌, ◌==◌, ◌&&◌, ◌||◌, ◌≤◌, ◌<◌, ℕ, ◌+◌, ◌*◌, ◌/◌, ◌%◌, ◌^◌, nat_lt, nat_le, if◌then◌else◌, Bool, IsTrue, List, [], ◌∷◌, ◌++◌, length, take, drop, slice_index, Option, Some, None}
+use Rattle.std.specs.Prelude.{◌≡◌, ◌↔◌, ◌==◌, ◌&&◌, ◌||◌, ◌≤◌, ◌<◌, ℕ, ◌+◌, ◌*◌, ◌/◌, ◌%◌, ◌^◌, nat_lt, nat_le}
+use Rattle.std.specs.Prelude.{if◌then◌else◌, Bool, IsTrue, List, [], ◌∷◌, ◌++◌, length, take, drop, slice_index, Option}
+use Rattle.std.specs.Prelude.{Some, None}
 use Rattle.byteorder.specs.Endian.{big_from, little_from, big_bytes, little_bytes}
 use Rattle.gs_rtp.specs.Limits.{most_frame, most_last_block, most_shards_of_block, most_shards_of_code}
 use Rattle.gs_rtp.specs.declared.video.VideoHead.{VideoHead}

@@ -1,5 +1,5 @@
 -- The definitions at small lists, computed.
-use Rattle.std.proofs.Common.{◌≡◌, ℕ, zero, suc, List, [], ◌∷◌, codes, refl, map, Option, Some, None, lit≤}
+use Rattle.std.proofs.Common.{◌≡◌, ℕ, zero, suc, List, [], ◌∷◌, ◌++◌, codes, refl, map, Option, Some, None, lit≤}
 use Rattle.std.specs.Fmt.{digits}
 use Rattle.gs_bytes.specs.declared.addr.Addr.{Addr}
 use Rattle.gs_rtp.specs.declared.settings.Settings.{Settings}
@@ -209,7 +209,9 @@ faultless = refl
 
 asked : map request_text (talk 7).requests ≡
     codes "PLAY rtsp://127.0.0.1:48010 RTSP/1.0\r\nCSeq: 7\r\nX-GS-ClientVersion: 14\r\nSession: DEADBEEF0007\r\n\r\n"
-    ∷ codes "ANNOUNCE rtsp://127.0.0.1:48010 RTSP/1.0\r\nCSeq: 6\r\nX-GS-ClientVersion: 14\r\nSession: DEADBEEF0007\r\nContent-length: 135\r\n\r\na=x-nv-video[0].packetSize:1392\r\na=x-nv-video[0].maxFPS:120\r\na=x-nv-vqos[0].fec.minRequiredFecPackets:2\r\na=x-nv-aqos.packetDuration:5\r\n"
+    ∷ (codes "ANNOUNCE rtsp://127.0.0.1:48010 RTSP/1.0\r\nCSeq: 6\r\nX-GS-ClientVersion: 14\r\nSession: DEADBEEF0007\r\nContent-length: 135\r\n\r\n"
+    ++ codes "a=x-nv-video[0].packetSize:1392\r\na=x-nv-video[0].maxFPS:120\r\n"
+    ++ codes "a=x-nv-vqos[0].fec.minRequiredFecPackets:2\r\na=x-nv-aqos.packetDuration:5\r\n")
     ∷ codes "SETUP streamid=control/1/0 RTSP/1.0\r\nCSeq: 5\r\nX-GS-ClientVersion: 14\r\nSession: DEADBEEF0007\r\n\r\n"
     ∷ codes "SETUP streamid=video/0/0 RTSP/1.0\r\nCSeq: 4\r\nX-GS-ClientVersion: 14\r\nSession: DEADBEEF0007\r\n\r\n"
     ∷ codes "SETUP streamid=audio/0/0 RTSP/1.0\r\nCSeq: 3\r\nX-GS-ClientVersion: 14\r\n\r\n"

@@ -1,5 +1,6 @@
 -- The headers of the set-up are headers, and no longer than a head may be.
-use Rattle.std.proofs.Common.{◌≡◌, ℕ, zero, suc, ◌+◌, ◌-◌, ◌^◌, ◌<◌, ◌≤◌, Bool, true, false, not, eqb, ltb, cond, ◌&&◌, List, [], ◌∷◌, ◌++◌, length, replicate, codes, Some, refl, sym, ap, ◌∙◌, arith, length-append, lit<, lit≤}
+use Rattle.std.proofs.Common.{◌≡◌, ℕ, zero, suc, ◌+◌, ◌-◌, ◌^◌, ◌<◌, ◌≤◌, Bool, true, false, not, eqb, ltb, cond, ◌&&◌, List, [], ◌∷◌, ◌++◌, length, replicate}
+use Rattle.std.proofs.Common.{codes, Some, refl, sym, ap, ◌∙◌, arith, length-append, lit<, lit≤}
 use Rattle.std.specs.Prelude.{decimal, IsTrue}
 use Rattle.std.specs.List.{list_all, flat_map}
 use Rattle.std.proofs.lemmas.Bool.{false≢true}

@@ -1,5 +1,6 @@
 -- The response to a request that was read can be written.
-use Rattle.std.proofs.Common.{◌≡◌, ◌⊎◌, ℕ, ◌^◌, ◌<◌, ◌≤◌, Bool, true, false, eqb, ◌||◌, List, [], ◌∷◌, ◌++◌, length, reverse, codes, Option, Some, refl, sym, ap, subst, ◌∙◌, arith, length-append, lit<, lit≤, inl, inr}
+use Rattle.std.proofs.Common.{◌≡◌, ◌⊎◌, ℕ, ◌^◌, ◌<◌, ◌≤◌, Bool, true, false, eqb, ◌||◌, List, [], ◌∷◌, ◌++◌, length, reverse, codes, Option, Some, refl, sym}
+use Rattle.std.proofs.Common.{ap, subst, ◌∙◌, arith, length-append, lit<, lit≤, inl, inr}
 use Rattle.std.specs.Prelude.{unwrap_or}
 use Rattle.std.specs.List.{list_all}
 use Rattle.std.proofs.lemmas.Bool.{false≢true}
@@ -22,7 +23,8 @@ use Rattle.gs_rtsp.specs.declared.field.Field.TheVariants.{Session, Port, Conten
 use Rattle.gs_rtsp.specs.declared.stream.Stream.{Stream}
 use Rattle.gs_rtsp.specs.declared.stream.Stream.TheVariants.{Audio, Video, Control}
 use Rattle.gs_rtsp.specs.Fields.{field_text, field_header, port_of, data_field}
-use Rattle.gs_rtsp.specs.Reply.{Answer, Unchanged, Described, SetUp, Announced, Playing, Refused, code_of, repeated_sequence, session_header, stream_headers, description, response_by}
+use Rattle.gs_rtsp.specs.Reply.{Answer, Unchanged, Described, SetUp, Announced, Playing, Refused, code_of, repeated_sequence, session_header, stream_headers}
+use Rattle.gs_rtsp.specs.Reply.{description, response_by}
 use Rattle.gs_rtsp.specs.Verdicts.{is_answered_code}
 use Rattle.gs_rtsp.proofs.Lengths.{length_description}
 use Rattle.gs_rtsp.proofs.Sendable.{Numbered, numbered, field_is_header, text_is_value, length_read, length_head, length_text, length_name}

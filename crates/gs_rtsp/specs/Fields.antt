@@ -1,5 +1,6 @@
 -- The numbers that the headers of the set-up carry: how they are spelled and read, and what they stand for.
-use Rattle.std.specs.Prelude.{ℕ, ◌+◌, ◌-◌, ◌^◌, Bool, true, false, ◌==◌, nat_lt, List, [], ◌∷◌, ◌++◌, length, replicate, codes, decimal, Option, Some, None, option_and_then, if◌then◌else◌}
+use Rattle.std.specs.Prelude.{ℕ, ◌+◌, ◌-◌, ◌^◌, Bool, true, false, ◌==◌, nat_lt, List, [], ◌∷◌, ◌++◌, length, replicate}
+use Rattle.std.specs.Prelude.{codes, decimal, Option, Some, None, option_and_then, if◌then◌else◌}
 use Rattle.std.specs.List.{before_first}
 use Rattle.gs_rtsp_text.specs.declared.header.Header.{Header}
 use Rattle.gs_bytes.specs.Words.{trimmed}
@@ -7,7 +8,8 @@ use Rattle.gs_bytes.specs.Numbers.{decimal_up_to}
 use Rattle.gs_rtsp_text.specs.Lines.{value_by}
 use Rattle.gs_sdp.specs.Lines.{behind}
 use Rattle.gs_rtsp.specs.declared.field.Field.{Field}
-use Rattle.gs_rtsp.specs.declared.field.Field.TheVariants.{Sequence, ClientVersion, Session, Port, PingPayload, ConnectData, ContentLength}
+use Rattle.gs_rtsp.specs.declared.field.Field.TheVariants.{Sequence, ClientVersion, Session, Port, PingPayload}
+use Rattle.gs_rtsp.specs.declared.field.Field.TheVariants.{ConnectData, ContentLength}
 use Rattle.gs_rtsp.specs.declared.stream.Stream.{Stream}
 use Rattle.gs_rtsp.specs.declared.stream.Stream.TheVariants.{Audio, Video, Control}
 

@@ -1,5 +1,6 @@
 -- The answer to each request of a list, by the first row of a table that holds.
-use Rattle.std.specs.Prelude.{ℕ, Bool, true, false, not, ◌&&◌, ◌||◌, nat_eq, List, [], ◌∷◌, ◌++◌, length, codes, decimal, Option, Some, None, is_some, is_none, unwrap_or, option_map, if◌then◌else◌}
+use Rattle.std.specs.Prelude.{ℕ, Bool, true, false, not, ◌&&◌, ◌||◌, nat_eq, List, [], ◌∷◌, ◌++◌, length, codes}
+use Rattle.std.specs.Prelude.{decimal, Option, Some, None, is_some, is_none, unwrap_or, option_map, if◌then◌else◌}
 use Rattle.std.specs.List.{list_any, find, starts_with}
 use Rattle.gs_rtp.specs.declared.settings.Settings.{Settings}
 use Rattle.gs_rtsp_text.specs.declared.header.Header.{Header}
@@ -14,7 +15,8 @@ use Rattle.gs_sdp.specs.Table.{name_of, setting}
 use Rattle.gs_rtsp.specs.declared.field.Field.TheVariants.{Session, Port, ContentLength}
 use Rattle.gs_rtsp.specs.declared.stream.Stream.{Stream}
 use Rattle.gs_rtsp.specs.declared.stream.Stream.TheVariants.{Audio, Video, Control}
-use Rattle.gs_rtsp.specs.Fields.{field_text, field_header, header_number, is_number, is_same_stream, port_of, data_field}
+use Rattle.gs_rtsp.specs.Fields.{field_text, field_header, header_number, is_number, is_same_stream, port_of}
+use Rattle.gs_rtsp.specs.Fields.{data_field}
 
 -- an answer, and what it changes
 pub data Answer : Type 0 where

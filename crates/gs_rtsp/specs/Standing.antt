@@ -1,5 +1,6 @@
 -- The lists that a server and a set-up stand for.
-use Rattle.std.specs.Prelude.{◌≡◌, ℕ, suc, Bool, true, false, ◌⊎◌, List, [], length, Option, None, Some, Result, Ok, Err, ⊤, ◌+◌, option_map, slice_get, MatchOption}
+use Rattle.std.specs.Prelude.{◌≡◌, ℕ, suc, Bool, true, false, ◌⊎◌, List, [], length, Option, None, Some, Result, Ok}
+use Rattle.std.specs.Prelude.{Err, ⊤, ◌+◌, option_map, slice_get, MatchOption}
 use Rattle.gs_bytes.specs.declared.addr.Addr.{Addr}
 use Rattle.gs_rtp.specs.declared.settings.Settings.{Settings}
 use Rattle.gs_rtp.specs.Stream.{numbers_of}

@@ -6,7 +6,8 @@ use Rattle.gs_rtsp_text.specs.declared.message.Request.{Request}
 use Rattle.gs_sdp.specs.Table.{AreSettings}
 use Rattle.gs_rtsp.specs.declared.verdict.Verdict.{Verdict}
 use Rattle.gs_rtsp.specs.declared.verdict.Verdict.TheVariants as verdicts
-use Rattle.gs_rtsp.specs.Reply.{Answer, Answered, Unchanged, Described, SetUp, Announced, Playing, Refused, code_of, answer_by, answer_to, announced_body, is_playing}
+use Rattle.gs_rtsp.specs.Reply.{Answer, Answered, Unchanged, Described, SetUp, Announced, Playing, Refused, code_of}
+use Rattle.gs_rtsp.specs.Reply.{answer_by, answer_to, announced_body, is_playing}
 
 abbrev pub answer_of : Verdict → Answer
 answer_of verdicts.Unchanged = Unchanged

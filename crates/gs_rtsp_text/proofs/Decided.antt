@@ -1,5 +1,6 @@
 -- Bytes have one answer, it stays, and reading gives it.
-use Rattle.std.proofs.Common.{◌≡◌, ℕ, suc, ◌+◌, ◌-◌, ◌<◌, ◌≤◌, Bool, true, false, cond, leb, List, [], ◌∷◌, ◌++◌, length, take, drop, Some, None, Result, Ok, Err, refl, sym, ap, subst, ◌∙◌, append_assoc, arith, inl, inr, ◌⊎◌, length-append}
+use Rattle.std.proofs.Common.{◌≡◌, ℕ, suc, ◌+◌, ◌-◌, ◌<◌, ◌≤◌, Bool, true, false, cond, leb, List, [], ◌∷◌, ◌++◌, length, take, drop, Some, None, Result, Ok}
+use Rattle.std.proofs.Common.{Err, refl, sym, ap, subst, ◌∙◌, append_assoc, arith, inl, inr, ◌⊎◌, length-append}
 use Rattle.std.specs.List.{concat}
 use Rattle.std.proofs.Math.Seq.{take-add}
 use Rattle.std.proofs.lemmas.List.{take-append-drop, take-append-le, take_at, take_all, take-take, length-take-le, length-take, length-drop}
@@ -11,7 +12,8 @@ use Rattle.gs_rtsp_text.specs.declared.stop.Stop.{Stop}
 use Rattle.gs_rtsp_text.specs.declared.stop.Stop.TheVariants.{More as stop_more, Bad}
 use Rattle.gs_rtsp_text.specs.Bytes.{crlf}
 use Rattle.gs_rtsp_text.specs.Lines.{AreHeaderLines, body_length}
-use Rattle.gs_rtsp_text.specs.Message.{Message, Whole, BadText, More, AreLines, IsHead, HasHead, CanBegin, GoesWrongAt, IsBadPlace, IsMessage, IsWhole, IsAnswer, most_head}
+use Rattle.gs_rtsp_text.specs.Message.{Message, Whole, BadText, More, AreLines, IsHead, HasHead, CanBegin, GoesWrongAt, IsBadPlace, IsMessage, IsWhole}
+use Rattle.gs_rtsp_text.specs.Message.{IsAnswer, most_head}
 use Rattle.gs_rtsp_text.specs.Reading.{answer_by, place_answer, head_by}
 use Rattle.gs_rtsp_text.specs.Laws.{HasOneAnswer, Stays, IsSameInPieces}
 use Rattle.gs_rtsp_text.proofs.Parts.{IsCode, Meets, append-cancel}

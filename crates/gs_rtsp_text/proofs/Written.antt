@@ -1,5 +1,6 @@
 -- What is written is in the grammar, and is read again as the same value.
-use Rattle.std.proofs.Common.{◌≡◌, ℕ, ◌+◌, ◌/◌, ◌%◌, ◌^◌, ◌<◌, ◌≤◌, Bool, true, List, [], ◌∷◌, ◌++◌, length, refl, sym, ap, subst, ◌∙◌, append_assoc, arith, ◌⊎◌, inl, inr, length-append}
+use Rattle.std.proofs.Common.{◌≡◌, ℕ, ◌+◌, ◌/◌, ◌%◌, ◌^◌, ◌<◌, ◌≤◌, Bool, true, List, [], ◌∷◌, ◌++◌, length, refl, sym, ap, subst, ◌∙◌, append_assoc, arith}
+use Rattle.std.proofs.Common.{◌⊎◌, inl, inr, length-append}
 use Rattle.std.specs.Prelude.{codes, decimal}
 use Rattle.std.specs.List.{list_all, flat_map, AllByRecursion}
 use Rattle.std.proofs.lemmas.Fmt.{decimal_by_steps}
@@ -10,7 +11,8 @@ use Rattle.gs_rtsp_text.specs.declared.message.Response.{Response}
 use Rattle.gs_rtsp_text.specs.Bytes.{crlf, is_value_byte, is_target_byte, IsRun}
 use Rattle.gs_rtsp_text.specs.Lines.{IsHeader, IsHeaderLine, AreHeaderLines, IsRequestLine, IsStatusLine, method_name, three_digits}
 use Rattle.gs_rtsp_text.specs.Message.{Message, IsMessage, IsWhole, is_one, is_at_most_one, request_message, response_message}
-use Rattle.gs_rtsp_text.specs.Writing.{header_text, request_line_text, status_line_text, reason_of, head_text, AreRightHeaders, IsSendableResponse, RequestIsReadAgain, ResponseIsReadAgain}
+use Rattle.gs_rtsp_text.specs.Writing.{header_text, request_line_text, status_line_text, reason_of, head_text, AreRightHeaders, IsSendableResponse}
+use Rattle.gs_rtsp_text.specs.Writing.{RequestIsReadAgain, ResponseIsReadAgain}
 
 header_line : (h : Header) → IsHeader h → IsHeaderLine (header_text h) h
 header_line h i = (

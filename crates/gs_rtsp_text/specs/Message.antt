@@ -1,5 +1,6 @@
 -- Requests and responses as bytes (RFC 2326), and what bytes that come one after the other hold.
-use Rattle.std.specs.Prelude.{◌≡◌, ℕ, suc, ◌<◌, ◌≤◌, Bool, ◌==◌, nat_le, IsTrue, ◌⊎◌, List, ◌++◌, length, take, Some, Result, Ok, Err, ⊤}
+use Rattle.std.specs.Prelude.{◌≡◌, ℕ, suc, ◌<◌, ◌≤◌, Bool, ◌==◌, nat_le, IsTrue, ◌⊎◌, List, ◌++◌, length, take, Some}
+use Rattle.std.specs.Prelude.{Result, Ok, Err, ⊤}
 use Rattle.gs_rtsp_text.specs.declared.limits.TheConstants.{MOST_HEAD}
 use Rattle.gs_rtsp_text.specs.declared.header.Header.{Header}
 use Rattle.gs_rtsp_text.specs.declared.message.Method.{Method}

@@ -7,7 +7,8 @@ use Rattle.gs_rtsp_text.specs.declared.message.Request.{Request}
 use Rattle.gs_rtsp_text.specs.declared.message.Response.{Response}
 use Rattle.gs_rtsp_text.specs.Bytes.{crlf, is_target_byte, IsRun}
 use Rattle.gs_rtsp_text.specs.Lines.{IsHeader, cseq_count, body_length, method_name, three_digits}
-use Rattle.gs_rtsp_text.specs.Message.{Whole, most_head, is_one, is_at_most_one, request_message, response_message, IsRequestAnswer, IsResponseAnswer}
+use Rattle.gs_rtsp_text.specs.Message.{Whole, most_head, is_one, is_at_most_one, request_message, response_message}
+use Rattle.gs_rtsp_text.specs.Message.{IsRequestAnswer, IsResponseAnswer}
 
 abbrev pub header_text : Header → List ℕ
 header_text h = h.name ++ codes ": " ++ h.value ++ crlf

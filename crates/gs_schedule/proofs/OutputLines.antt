@@ -1,5 +1,6 @@
 -- Two values have different output lines.
-use Rattle.std.proofs.Common.{◌≡◌, ◌⊎◌, inl, inr, ◌<◌, ℕ, lit≤, ◌+◌, ◌*◌, ◌^◌, nat_eq, true, false, subst, ℤ, pos, negsuc, suc, FitsSigned, rules, List, [], ◌∷◌, ◌++◌, map, refl, sym, ap, ◌∙◌, arith}
+use Rattle.std.proofs.Common.{◌≡◌, ◌⊎◌, inl, inr, ◌<◌, ℕ, lit≤, ◌+◌, ◌*◌, ◌^◌, nat_eq, true, false, subst, ℤ, pos, negsuc, suc, FitsSigned, rules, List, []}
+use Rattle.std.proofs.Common.{◌∷◌, ◌++◌, map, refl, sym, ap, ◌∙◌, arith}
 use Rattle.std.specs.Prelude.{codes}
 use Rattle.std.specs.List.{AllByRecursion}
 use Rattle.std.specs.Int.{w64}

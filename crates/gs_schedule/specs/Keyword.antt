@@ -1,7 +1,8 @@
 -- The first words of the lines that have only numbers behind them.
 use Rattle.std.specs.Prelude.{ℕ, List, codes}
 use Rattle.gs_schedule.specs.declared.keyword.Keyword.{Keyword}
-use Rattle.gs_schedule.specs.declared.keyword.Keyword.TheVariants.{Session, Cap, Send, Video, Audio, Videos, Up, Down, Idr, Time, Pump, Close, Reset}
+use Rattle.gs_schedule.specs.declared.keyword.Keyword.TheVariants.{Session, Cap, Send, Video, Audio, Videos, Up, Down}
+use Rattle.gs_schedule.specs.declared.keyword.Keyword.TheVariants.{Idr, Time, Pump, Close, Reset}
 
 abbrev pub keyword_text : Keyword → List ℕ
 keyword_text Session = codes "session"

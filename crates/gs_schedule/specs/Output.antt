@@ -8,7 +8,8 @@ use Rattle.gs_input.specs.Event.{FitsTypes as EventFits, HasButton}
 use Rattle.gs_input.specs.Line.{name_of, arguments_of}
 use Rattle.gs_schedule.specs.Lines.{newline}
 use Rattle.gs_schedule.specs.declared.output.Output.{Output}
-use Rattle.gs_schedule.specs.declared.output.Output.TheVariants.{Sent, Ask, Hand, Play, Invalid, Idr, Ended, Input, Full, Closed, Lost, Reset, Total, Done}
+use Rattle.gs_schedule.specs.declared.output.Output.TheVariants.{Sent, Ask, Hand, Play, Invalid, Idr, Ended, Input}
+use Rattle.gs_schedule.specs.declared.output.Output.TheVariants.{Full, Closed, Lost, Reset, Total, Done}
 
 -- a word, and numbers without a sign behind it
 abbrev pub counted : List ℕ → List ℕ → List (List ℕ)

@@ -2,7 +2,9 @@
 use Rattle.std.specs.Prelude.{ℕ, List, [], ◌++◌, codes}
 use Rattle.std.specs.Fmt.{decimal}
 use Rattle.gs_schedule.specs.declared.status.TrialStatus.{TrialStatus}
-use Rattle.gs_schedule.specs.declared.status.TrialStatus.TheVariants.{Ok, Usage, TapeFault, BadTape, TapeFull, UnitTooLarge, AudioLength, ScheduleFault, BadSchedule, WriteFault, OutOfMemory}
+use Rattle.gs_schedule.specs.declared.status.TrialStatus.TheVariants.{Ok, Usage, TapeFault, BadTape, TapeFull}
+use Rattle.gs_schedule.specs.declared.status.TrialStatus.TheVariants.{UnitTooLarge, AudioLength, ScheduleFault}
+use Rattle.gs_schedule.specs.declared.status.TrialStatus.TheVariants.{BadSchedule, WriteFault, OutOfMemory}
 
 abbrev pub exit_status : TrialStatus → ℕ
 exit_status Ok = 0

@@ -7,7 +7,8 @@ use Rattle.gs_input.specs.Event.{IsEvent}
 use Rattle.gs_input.specs.Line.{name_of, arguments_of}
 use Rattle.gs_schedule.specs.declared.limits.TheConstants.{MOST_TIME}
 use Rattle.gs_schedule.specs.declared.step.Step.{Step}
-use Rattle.gs_schedule.specs.declared.step.Step.TheVariants.{Blank, Session, Cap, Send, Video, Audio, Videos, Up, Down, Input, Idr, Time, Pump, Close, Reset}
+use Rattle.gs_schedule.specs.declared.step.Step.TheVariants.{Blank, Session, Cap, Send, Video, Audio, Videos, Up, Down}
+use Rattle.gs_schedule.specs.declared.step.Step.TheVariants.{Input, Idr, Time, Pump, Close, Reset}
 
 -- the words are numbers of 32 bits, in decimal without a sign or a leading zero
 abbrev pub SpellNumbers : List (List ℕ) → List ℕ → Type 0

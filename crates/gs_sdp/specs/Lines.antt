@@ -1,5 +1,6 @@
 -- Attribute lines (RFC 4566, section 5.13): `a=NAME:VALUE`.
-use Rattle.std.specs.Prelude.{ℕ, ◌==◌, nat_eq, List, [], ◌∷◌, ◌++◌, length, drop, reverse, codes, Option, Some, None, option_and_then, if◌then◌else◌}
+use Rattle.std.specs.Prelude.{ℕ, ◌==◌, nat_eq, List, [], ◌∷◌, ◌++◌, length, drop, reverse, codes, Option, Some, None}
+use Rattle.std.specs.Prelude.{option_and_then, if◌then◌else◌}
 use Rattle.std.specs.List.{starts_with}
 use Rattle.gs_bytes.specs.Words.{without_last_spaces}
 

@@ -1,5 +1,6 @@
 -- The attributes that name a stream's settings.
-use Rattle.std.specs.Prelude.{◌≡◌, ℕ, ◌++◌, nat_le, List, codes, decimal, Option, Some, None, IsSome, option_and_then, if◌then◌else◌}
+use Rattle.std.specs.Prelude.{◌≡◌, ℕ, ◌++◌, nat_le, List, codes, decimal, Option, Some, None, IsSome, option_and_then}
+use Rattle.std.specs.Prelude.{if◌then◌else◌}
 use Rattle.gs_bytes.specs.Numbers.{decimal_up_to}
 use Rattle.gs_rtp.specs.Limits.{least_packet, most_packet, least_fps, most_fps, most_minimum}
 use Rattle.gs_rtp.specs.declared.settings.Settings.{Settings}

@@ -1,5 +1,6 @@
 -- Histories of a session, and what its references do at a call.
-use Rattle.std.proofs.Common.{◌≡◌, ◌⊎◌, ◌<◌, ◌||◌, ℕ, ℤ, Bool, true, false, length, List, [], ◌∷◌, ◌++◌, Result, Ok, Err, OnOk, OnErr, IfOk, refl, sym, ap, subst, ◌∙◌, arith, inl, inr}
+use Rattle.std.proofs.Common.{◌≡◌, ◌⊎◌, ◌<◌, ◌||◌, ℕ, ℤ, Bool, true, false, length, List, [], ◌∷◌, ◌++◌, Result, Ok, Err, OnOk, OnErr, IfOk, refl, sym, ap}
+use Rattle.std.proofs.Common.{subst, ◌∙◌, arith, inl, inr}
 use Rattle.std.specs.Prelude.{if◌then◌else◌, nat_lt}
 use Rattle.std.specs.List.{AllByRecursion}
 use Rattle.std.specs.Arc.{arc_value}
@@ -40,7 +41,8 @@ leaves-last : (s : References) (h : List SessionCall) (e : SessionCall) (t : Ref
 leaves-last s [] e t (u, step, done) = (s, refl, subst (λ (x : References). MayReply s e.call e.reply x) done step)
 leaves-last s (d ∷ ds) e t (u, step, rest) = let last = leaves-last u ds e t rest in (last.0, (u, step, last.1), last.2)
 
-answered : (b : References) (call : Call) (reply : Reply) (t : References) → MayReply b call reply t → (reply ≡ answer_to b.history call) ⊎ (reply ≡ out_of_memory call)
+answered : (b : References) (call : Call) (reply : Reply) (t : References) → MayReply b call reply t → (reply ≡ answer_to b.history call)
+    ⊎ (reply ≡ out_of_memory call)
 answered b call reply t (inl is) = inl is.answer
 answered b call reply t (inr is) = inr is.answer
 
@@ -123,10 +125,12 @@ own-right [] ys h all = all
 own-right (x ∷ xs) ys h all = own-right xs ys h all.1
 
 -- the front of two passes that were joined is one of each
-pub front-left : (xs both : List SessionCall) (own own' : List (ℕ × List SessionCall)) (h : List SessionCall) → IsPrefix xs both → Front both (own ++ own') h → Front xs own h
+pub front-left : (xs both : List SessionCall) (own own' : List (ℕ × List SessionCall)) (h : List SessionCall) → IsPrefix xs both → Front both (own ++ own') h
+    → Front xs own h
 front-left xs both own own' h begins is = record { begins = prefix-trans xs both h begins is.begins; own_calls = own-left own own' h is.own_calls }
 
-pub front-right : (xs both : List SessionCall) (own own' : List (ℕ × List SessionCall)) (h : List SessionCall) → IsPrefix xs both → Front both (own ++ own') h → Front xs own' h
+pub front-right : (xs both : List SessionCall) (own own' : List (ℕ × List SessionCall)) (h : List SessionCall) → IsPrefix xs both → Front both (own ++ own') h
+    → Front xs own' h
 front-right xs both own own' h begins is = record { begins = prefix-trans xs both h begins is.begins; own_calls = own-right own own' h is.own_calls }
 
 -- ---- the two passes

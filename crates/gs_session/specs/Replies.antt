@@ -4,7 +4,8 @@ use Rattle.std.specs.Arc.{arc_value}
 use Rattle.gs_refs.specs.declared.entry.Entry.{Entry}
 use Rattle.gs_refs.specs.declared.entry.Entry.TheVariants as entry
 use Rattle.gs_refs.specs.History.{frames, last_tick, has_ended}
-use Rattle.gs_refs.specs.Answers.{References, next_sent, sent_entry, choose_answer, named_range, invalidate_answer, ask_answer}
+use Rattle.gs_refs.specs.Answers.{References, next_sent, sent_entry, choose_answer, named_range, invalidate_answer}
+use Rattle.gs_refs.specs.Answers.{ask_answer}
 use Rattle.gs_session.specs.declared.call.Call.{Call}
 use Rattle.gs_session.specs.declared.call.Call.TheVariants.{Choose, Invalidate, AskIdr}
 use Rattle.gs_session.specs.declared.call.Reply.{Reply}
@@ -22,7 +23,8 @@ answer_to h AskIdr = Asked (with_error ended_error (ask_answer h))
 
 -- the entry that a call adds where the session hasn't ended
 abbrev pub added_by : List Entry → Call → List Entry
-added_by h (Choose tick) = if nat_lt (last_tick h) (arc_value tick).number then sent_entry (next_sent h (arc_value tick)) ∷ h else h
+added_by h (Choose tick) =
+    if nat_lt (last_tick h) (arc_value tick).number then sent_entry (next_sent h (arc_value tick)) ∷ h else h
 added_by h (Invalidate first last) = named_range (frames h) first last ∷ h
 added_by h AskIdr = entry.IdrAsked ∷ h
 
@@ -63,4 +65,5 @@ pub record IsRefused (before : List Entry) (call : Call) (reply : Reply) (after 
 
 -- what a session's references may do at a call
 abbrev pub MayReply : References → Call → Reply → References → Type 0
-MayReply before call reply after = IsAnswered before.history call reply after.history ⊎ IsRefused before.history call reply after.history
+MayReply before call reply after =
+    IsAnswered before.history call reply after.history ⊎ IsRefused before.history call reply after.history

@@ -1,5 +1,6 @@
 -- What a value stands for behind each call.
-use Rattle.std.proofs.Common.{◌≡◌, ◌<◌, ◌+◌, ℕ, Bool, true, false, List, [], ◌∷◌, ◌++◌, length, get_or, set, Option, Some, None, Result, Ok, Err, refl, sym, ap, subst, ◌∙◌, arith, inl, inr}
+use Rattle.std.proofs.Common.{◌≡◌, ◌<◌, ◌+◌, ℕ, Bool, true, false, List, [], ◌∷◌, ◌++◌, length, get_or, set, Option, Some, None, Result, Ok, Err, refl, sym, ap}
+use Rattle.std.proofs.Common.{subst, ◌∙◌, arith, inl, inr}
 use Rattle.std.specs.Prelude.{◌&&◌, nat_lt}
 use Rattle.std.proofs.lemmas.Bool.{cases_eq, lt-ltb}
 use Rattle.std.proofs.lemmas.List.{get_or-set_same, get_or-set_other, length-append, append-nil}
@@ -98,7 +99,8 @@ pub sends : (old new : ControlSide) (x : Side) (channel number : ℕ) (bytes : L
     → new.given ≡ set old.given channel number → StandsFor new (acted (Send channel bytes) x)
 unfolding with_message
 sends old new x channel number bytes h below inside able is stands wrote up given =
-    let may : (nat_lt channel channels && can_send x.peer channel) ≡ true = both (nat_lt channel channels) (can_send x.peer channel) (lt-ltb channel channels below) able in
+    let may : (nat_lt channel channels && can_send x.peer channel) ≡ true =
+    both (nat_lt channel channels) (can_send x.peer channel) (lt-ltb channel channels below) able in
     subst (λ (b : Bool). StandsFor new (record x { peer = sent_if b channel bytes x.peer })) (sym may) (record {
       peer = stands;
       wrote = subst (λ s. HoldsAll s x.wrote) (sym wrote) h.wrote;
@@ -176,7 +178,8 @@ unfolding next_items
 writes_none old new x now h w wrote up given =
     let nothing : next_items (at_moment now x.peer) ≡ [] = ap (fitting (at_moment now x.peer) 1388) w.0 in
     let holds : HoldsAll new.wrote (x.wrote ++ one_written (at_moment now x.peer) (next_items (at_moment now x.peer))) =
-    subst (λ s. HoldsAll s (x.wrote ++ one_written (at_moment now x.peer) (next_items (at_moment now x.peer)))) (sym wrote) (subst (λ (ws : List Written). HoldsAll old.wrote ws)
+    subst (λ s. HoldsAll s (x.wrote ++ one_written (at_moment now x.peer) (next_items (at_moment now x.peer)))) (sym wrote)
+    (subst (λ (ws : List Written). HoldsAll old.wrote ws)
     (sym (ap (λ (xs : List Item). x.wrote ++ one_written (at_moment now x.peer) xs) nothing ∙ append-nil x.wrote)) h.wrote) in
     (w.0, writes old new x _ now h w.1 holds up given)
 

@@ -10,8 +10,10 @@ use Rattle.gs_enet.specs.declared.event.PeerEvent.{PeerEvent}
 use Rattle.gs_enet.specs.declared.event.PeerEvent.TheVariants as event
 use Rattle.gs_enet.specs.declared.state.PeerState.{PeerState}
 use Rattle.gs_enet.specs.declared.state.PeerState.TheVariants as state
-use Rattle.gs_enet.specs.Record.{PeerRecord, Content, Connect, VerifyConnect, Disconnect, Message, Given, Unacknowledged, channels, is_shut, at_moment, happened, shut}
-use Rattle.gs_enet.specs.Receive.{takes_messages, expected, is_next, is_behind, message_if, taken_if, verified, verify_if, disconnect_if, answer_if, answer_to, leave_if, connected, acknowledged, is_named, acknowledged_if, received, all_received, taken}
+use Rattle.gs_enet.specs.Record.{PeerRecord, Content, Connect, VerifyConnect, Disconnect, Message, Given, Unacknowledged, channels, is_shut, at_moment}
+use Rattle.gs_enet.specs.Record.{happened, shut}
+use Rattle.gs_enet.specs.Receive.{takes_messages, expected, is_next, is_behind, message_if, taken_if, verified, verify_if, disconnect_if, answer_if, answer_to}
+use Rattle.gs_enet.specs.Receive.{leave_if, connected, acknowledged, is_named, acknowledged_if, received, all_received, taken}
 use Rattle.gs_enet.specs.Steps.{is_open, close_if, closed, is_lost, timed_if, timed}
 use Rattle.gs_sides.specs.Openness.{open_after, open_after_all}
 

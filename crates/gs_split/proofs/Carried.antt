@@ -1,5 +1,6 @@
 -- What a datagram carries.
-use Rattle.std.proofs.Common.{◌≡◌, ◌≢◌, ◌<◌, ◌≤◌, ◌+◌, ◌-◌, ◌*◌, ◌^◌, ◌++◌, ℕ, true, false, List, [], ◌∷◌, length, get_or, take, drop, map, Some, sym, ap, ◌∙◌, subst, arith, inl, inr}
+use Rattle.std.proofs.Common.{◌≡◌, ◌≢◌, ◌<◌, ◌≤◌, ◌+◌, ◌-◌, ◌*◌, ◌^◌, ◌++◌, ℕ, true, false, List, [], ◌∷◌, length, get_or, take, drop, map, Some, sym, ap, ◌∙◌}
+use Rattle.std.proofs.Common.{subst, arith, inl, inr}
 use Rattle.std.specs.Prelude.{nat_lt, nat_le, option_map}
 use Rattle.std.specs.List.{slice_get, range_with_len}
 use Rattle.std.proofs.Math.Seq.{take-append-add, take-append_seam, drop-append-add, drop-append_seam}
@@ -21,7 +22,8 @@ use Rattle.gs_frames.specs.Image.{ceil_div, frame_image, packets}
 use Rattle.gs_frames.specs.Plan.{BlockPlan, most_shards, most_blocks}
 use Rattle.gs_frames.specs.Received.{Received}
 use Rattle.gs_frames.specs.Shards.{CoveredHeader, covered_header, read_covered, payload_of, packet_header, block_shards}
-use Rattle.gs_frames.specs.Datagrams.{Place, next_block, datagram_of, shard_head, headed_shard, headed_shards, headed_blocks, plan_of, first_place, frame_shards, frame_datagrams}
+use Rattle.gs_frames.specs.Datagrams.{Place, next_block, datagram_of, shard_head, headed_shard, headed_shards, headed_blocks, plan_of, first_place}
+use Rattle.gs_frames.specs.Datagrams.{frame_shards, frame_datagrams}
 use Rattle.gs_frames.proofs.FramesReceived.{place_at, data_total, data_total-cons}
 use Rattle.gs_frames.proofs.Images.{length-frame_image}
 use Rattle.gs_frames.proofs.PlanLimits.{IsWithinGrammar}
@@ -175,7 +177,11 @@ kept-at s f b unit kept index k planned placed unit_is least total keeps k_is wi
     let shards = map (λ (r : Received). r.shard) all in
     let block = shards_of_block s f b unit in
     let in_block : index < length block =
-    omega (arith, length-block_shards s (placed_plan b) (f.count + b.first_datagram) (drop (b.first_packet * payload_of s) (frame_image f.kind unit (payload_of s)))) in
+    omega (
+      arith,
+      length-block_shards s (placed_plan b) (f.count + b.first_datagram)
+          (drop (b.first_packet * payload_of s) (frame_image f.kind unit (payload_of s))),
+    ) in
     let shard = get_or block index [] in
     let here : slice_get block index ≡ Some shard = slice_get-get_or block index [] in_block in
     let found = frame-at s f b unit index k shard planned placed unit_is k_is here in

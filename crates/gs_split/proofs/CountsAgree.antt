@@ -8,7 +8,8 @@ use Rattle.gs_frames.specs.Image.{frame_image}
 use Rattle.gs_frames.specs.Plan.{BlockPlan}
 use Rattle.gs_frames.specs.Shards.{payload_of, flags, data_shard, data_shards_from, shares, block_shards}
 use Rattle.gs_frames.specs.Received.{Received}
-use Rattle.gs_frames.specs.Datagrams.{Place, next_block, headed_shard, headed_shards, headed_blocks, datagram_of, plan_of, first_place, OutgoingFrame, frame_shards, frame_datagrams}
+use Rattle.gs_frames.specs.Datagrams.{Place, next_block, headed_shard, headed_shards, headed_blocks, datagram_of, plan_of, first_place, OutgoingFrame}
+use Rattle.gs_frames.specs.Datagrams.{frame_shards, frame_datagrams}
 use Rattle.gs_split.specs.Splitting.{frame_behind, KeepsShards}
 
 abbrev pub Agree : ℕ → ℕ → Type 0

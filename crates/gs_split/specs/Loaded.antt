@@ -1,5 +1,6 @@
 -- A loaded frame, and what its datagrams are made of.
-use Rattle.std.specs.Prelude.{ℕ, ◌≡◌, ◌≤◌, ◌<◌, ◌+◌, ◌-◌, ◌*◌, ◌%◌, ◌^◌, ◌++◌, List, take, drop, Some, true, if◌then◌else◌}
+use Rattle.std.specs.Prelude.{ℕ, ◌≡◌, ◌≤◌, ◌<◌, ◌+◌, ◌-◌, ◌*◌, ◌%◌, ◌^◌, ◌++◌, List, take, drop, Some, true}
+use Rattle.std.specs.Prelude.{if◌then◌else◌}
 use Rattle.std.specs.List.{slice_get}
 use Rattle.gs_bytes.specs.Limits.{most_unit}
 use Rattle.gs_rtp.specs.Limits.{most_frame}
@@ -7,7 +8,8 @@ use Rattle.gs_rtp.specs.Stream.{StreamSettings}
 use Rattle.gs_frames.specs.Image.{frame_image, packets}
 use Rattle.gs_frames.specs.ImageLaws.{IsWrittenKind}
 use Rattle.gs_frames.specs.Plan.{BlockPlan, fec_plan}
-use Rattle.gs_frames.specs.Shards.{CoveredHeader, covered_header, read_covered, packet_header, payload_of, flags, shares, data_shards_from, block_shards}
+use Rattle.gs_frames.specs.Shards.{CoveredHeader, covered_header, read_covered, packet_header, payload_of, flags}
+use Rattle.gs_frames.specs.Shards.{shares, data_shards_from, block_shards}
 use Rattle.gs_frames.specs.Datagrams.{OutgoingFrame, Place}
 use Rattle.gs_split.specs.declared.shard.Covered.{Covered}
 use Rattle.gs_split.specs.declared.placed.PlacedBlock.{PlacedBlock}

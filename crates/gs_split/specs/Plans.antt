@@ -33,4 +33,5 @@ block_plan block = record { data_shards = block.shards; parity_shards = block.pa
 
 -- the block of d data shards of a frame with this percentage of parity, 0 for none
 abbrev pub protected : ℕ → ℕ → ℕ → BlockPlan
-protected percentage minimum d = if d == 0 || percentage == 0 then without_parity d else with_parity percentage minimum d
+protected percentage minimum d =
+    if d == 0 || percentage == 0 then without_parity d else with_parity percentage minimum d

@@ -2,7 +2,8 @@
 use Rattle.std.specs.Prelude.{ℕ, ◌≡◌, List, [], ◌∷◌, ◌++◌, codes, refl, replicate, Some, None}
 use Rattle.gs_tape.specs.Tick.{Tick}
 use Rattle.gs_tape.specs.Capture.{file}
-use Rattle.gs_tape.specs.Reading.{Read, read, ends_with, and_then, Malformed, Full, UnitTooLarge, AudioLength, text_at, head_at, unit_at, deltas_at, audio_at, tick_at, ticks_at}
+use Rattle.gs_tape.specs.Reading.{Read, read, ends_with, and_then, Malformed, Full, UnitTooLarge, AudioLength, text_at, head_at, unit_at, deltas_at, audio_at}
+use Rattle.gs_tape.specs.Reading.{tick_at, ticks_at}
 
 small : List ℕ
 small =

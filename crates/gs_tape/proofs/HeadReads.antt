@@ -1,11 +1,13 @@
 -- What a file's head gives.
-use Rattle.std.proofs.Common.{◌≡◌, ◌+◌, ◌-◌, ◌≤◌, ◌∷◌, ◌++◌, ℕ, Bool, true, false, not, ◌||◌, Option, Some, None, Result, Ok, Err, List, [], length, refl, sym, ap, subst, ◌∙◌, arith}
+use Rattle.std.proofs.Common.{◌≡◌, ◌+◌, ◌-◌, ◌≤◌, ◌∷◌, ◌++◌, ℕ, Bool, true, false, not, ◌||◌, Option, Some, None, Result, Ok, Err, List, [], length, refl, sym}
+use Rattle.std.proofs.Common.{ap, subst, ◌∙◌, arith}
 use Rattle.std.specs.Prelude.{nat_lt, ◌==◌, codes, IfSome}
 use Rattle.std.specs.Result.{IsErrAnd}
 use Rattle.std.proofs.lemmas.Result.{err_from_is_err_and}
 use Rattle.gs_reader.specs.Buffered.{to_come}
 use Rattle.gs_tape.specs.Limits.{most_audio}
-use Rattle.gs_tape.specs.Reading.{Fault, Malformed, AudioLength, ◌>>=◌, unless, number_at, text_at, Before, Head, head_at, Read, ticks_at, before_first, read_behind, read, audio_of_head, duration_of_head, audio_length, audio_duration}
+use Rattle.gs_tape.specs.Reading.{Fault, Malformed, AudioLength, ◌>>=◌, unless, number_at, text_at, Before, Head, head_at, Read, ticks_at, before_first}
+use Rattle.gs_tape.specs.Reading.{read_behind, read, audio_of_head, duration_of_head, audio_length, audio_duration}
 use Rattle.gs_tape.specs.declared.error.TapeError.{TapeError}
 use Rattle.gs_tape.specs.declared.stage.Stage.TheVariants.{Open}
 use Rattle.gs_tape.specs.declared.stage.Stage.{Stage}

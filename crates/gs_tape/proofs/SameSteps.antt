@@ -1,5 +1,6 @@
 -- The steps of a program read what the definitions read.
-use Rattle.std.proofs.Common.{◌≡◌, ◌+◌, ◌-◌, ◌*◌, ◌≤◌, ◌∷◌, ℕ, zero, suc, Bool, true, false, not, ◌&&◌, ◌||◌, Result, Ok, Err, List, [], length, take, drop, refl, sym, ap, subst, ◌∙◌, arith}
+use Rattle.std.proofs.Common.{◌≡◌, ◌+◌, ◌-◌, ◌*◌, ◌≤◌, ◌∷◌, ℕ, zero, suc, Bool, true, false, not, ◌&&◌, ◌||◌, Result, Ok, Err, List, [], length, take, drop}
+use Rattle.std.proofs.Common.{refl, sym, ap, subst, ◌∙◌, arith}
 use Rattle.std.specs.Prelude.{nat_lt, ◌==◌}
 use Rattle.gs_tape.specs.Limits.{most_bytes, most_count}
 use Rattle.std.specs.List.{AllByRecursion, sum_by}

@@ -1,5 +1,6 @@
 -- What a step leaves is no longer than what it was given, so a file's reading has enough steps.
-use Rattle.std.proofs.Common.{◌≡◌, ◌+◌, ◌-◌, ◌≤◌, ◌∷◌, ℕ, zero, suc, Bool, true, false, Some, None, Result, Ok, Err, List, [], length, take, drop, refl, sym, ap, subst, ◌∙◌, arith, length-drop}
+use Rattle.std.proofs.Common.{◌≡◌, ◌+◌, ◌-◌, ◌≤◌, ◌∷◌, ℕ, zero, suc, Bool, true, false, Some, None, Result, Ok, Err, List, [], length, take, drop, refl, sym}
+use Rattle.std.proofs.Common.{ap, subst, ◌∙◌, arith, length-drop}
 use Rattle.std.specs.Prelude.{nat_lt, ◌==◌}
 use Rattle.byteorder.specs.Endian.{little_number}
 use Rattle.gs_tape.specs.Tick.{Tick, Delta, unit_bytes}

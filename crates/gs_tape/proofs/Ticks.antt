@@ -1,5 +1,6 @@
 -- The ticks that any bytes give keep the limits, and without a fault the bytes are their file.
-use Rattle.std.proofs.Common.{◌≡◌, ◌⊎◌, ◌<◌, ◌≤◌, ◌+◌, ◌-◌, ◌*◌, ◌%◌, ◌^◌, ℕ, zero, suc, Bool, true, false, not, ◌&&◌, ◌||◌, List, [], ◌∷◌, ◌++◌, length, Some, None, Result, Ok, Err, refl, sym, ap, subst, ◌∙◌, arith, inl, inr, append_assoc}
+use Rattle.std.proofs.Common.{◌≡◌, ◌⊎◌, ◌<◌, ◌≤◌, ◌+◌, ◌-◌, ◌*◌, ◌%◌, ◌^◌, ℕ, zero, suc, Bool, true, false, not, ◌&&◌, ◌||◌, List, [], ◌∷◌, ◌++◌, length, Some}
+use Rattle.std.proofs.Common.{None, Result, Ok, Err, refl, sym, ap, subst, ◌∙◌, arith, inl, inr, append_assoc}
 use Rattle.std.specs.Prelude.{nat_lt, ◌==◌, codes}
 use Rattle.std.specs.List.{All, AllByRecursion, slice_get, flat_map, concat, sum_by}
 use Rattle.std.proofs.lemmas.Bool.{ltb-false, or_parts, or_cases, cases_lt, and_cases, not-false, eqb-true, eqb-false}
@@ -10,7 +11,9 @@ use Rattle.byteorder.specs.Endian.{little_bytes}
 use Rattle.gs_tape.specs.Tick.{Tick, Delta, tick_numbered, unit_bytes}
 use Rattle.gs_tape.specs.Limits.{most_ticks, most_bytes, most_audio, most_count, IsWithinLimits, AreWithinLimits, IsTickWithinLimits, HoldsBytes, AreWritable}
 use Rattle.gs_tape.specs.Capture.{head, unit, delta, tick, file}
-use Rattle.gs_tape.specs.Reading.{Fault, Malformed, Full, AudioLength, unless, number_at, text_at, Head, head_at, unit_at, deltas_at, audio_at, Before, tick_at, Read, ends_with, with_tick, ticks_at, before_first, read_behind, read, ticks_of, audio_of_head, duration_of_head, audio_length}
+use Rattle.gs_tape.specs.Reading.{Fault, Malformed, Full, AudioLength, unless, number_at, text_at, Head, head_at, unit_at, deltas_at, audio_at, Before, tick_at}
+use Rattle.gs_tape.specs.Reading.{Read, ends_with, with_tick, ticks_at, before_first, read_behind, read, ticks_of, audio_of_head, duration_of_head}
+use Rattle.gs_tape.specs.Reading.{audio_length}
 use Rattle.gs_tape.specs.Laws.{TicksKeepLimits, AudioLengthKeepsLimit, EachTickIsWithinLimits, TicksHoldBytes, FaultlessBytesAreFiles}
 use Rattle.gs_tape.proofs.Results.{Gives, gives_then, gives_unless, gives_weaker}
 use Rattle.gs_tape.proofs.Readings.{AreBytes, IsNumber, number_gives, IsUnit, unit_gives, AreDeltas, deltas_give, AreSounds, sounds_give}

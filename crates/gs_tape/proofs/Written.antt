@@ -1,5 +1,6 @@
 -- What the readings of a capture file's fields give of fields that were written.
-use Rattle.std.proofs.Common.{◌≡◌, ◌<◌, ◌≤◌, ◌+◌, ◌-◌, ◌^◌, ℕ, suc, Bool, false, ◌||◌, List, [], ◌∷◌, ◌++◌, length, take, drop, Result, Ok, refl, ap, ◌∙◌, arith, append_assoc, length-append}
+use Rattle.std.proofs.Common.{◌≡◌, ◌<◌, ◌≤◌, ◌+◌, ◌-◌, ◌^◌, ℕ, suc, Bool, false, ◌||◌, List, [], ◌∷◌, ◌++◌, length, take, drop, Result, Ok, refl, ap, ◌∙◌}
+use Rattle.std.proofs.Common.{arith, append_assoc, length-append}
 use Rattle.std.specs.Prelude.{nat_lt, nat_le}
 use Rattle.std.specs.List.{AllByRecursion, flat_map, concat}
 use Rattle.std.proofs.lemmas.Bool.{le-ltb, lt-leb, or_from}
@@ -9,7 +10,8 @@ use Rattle.byteorder.specs.Endian.{little_bytes, little_number}
 use Rattle.byteorder.specs.Numbers.{little_number-reads_back, length-bytes_low_first}
 use Rattle.gs_tape.specs.Tick.{Delta}
 use Rattle.gs_tape.specs.Capture.{unit, delta}
-use Rattle.gs_tape.specs.Reading.{Fault, Malformed, Full, UnitTooLarge, ◌>>=◌, unless, bytes_at, number_at, most_unit, most_bytes, most_ticks, unit_at, deltas_at, audio_at}
+use Rattle.gs_tape.specs.Reading.{Fault, Malformed, Full, UnitTooLarge, ◌>>=◌, unless, bytes_at, number_at, most_unit, most_bytes, most_ticks, unit_at}
+use Rattle.gs_tape.specs.Reading.{deltas_at, audio_at}
 use Rattle.gs_tape.specs.Limits.{AreDeltasBetween}
 use Rattle.gs_tape.proofs.Readings.{delta_bytes}
 

@@ -1,5 +1,6 @@
 -- A capture file that was written is read as the ticks that it was written of.
-use Rattle.std.proofs.Common.{◌≡◌, ◌⊎◌, ◌<◌, ◌≤◌, ◌+◌, ◌-◌, ◌*◌, ℕ, zero, suc, Bool, true, false, not, ◌&&◌, ◌||◌, List, [], ◌∷◌, ◌++◌, length, Some, None, Result, Ok, refl, sym, ap, subst, ◌∙◌, arith, inl, inr, append_assoc, length-append}
+use Rattle.std.proofs.Common.{◌≡◌, ◌⊎◌, ◌<◌, ◌≤◌, ◌+◌, ◌-◌, ◌*◌, ℕ, zero, suc, Bool, true, false, not, ◌&&◌, ◌||◌, List, [], ◌∷◌, ◌++◌, length, Some, None}
+use Rattle.std.proofs.Common.{Result, Ok, refl, sym, ap, subst, ◌∙◌, arith, inl, inr, append_assoc, length-append}
 use Rattle.std.specs.Prelude.{nat_lt, ◌==◌, codes}
 use Rattle.std.specs.List.{flat_map, concat, sum_by}
 use Rattle.std.proofs.lemmas.Bool.{le-ltb, or_from, cases_eq, eq-eqb, ne_eqb, and_right}
@@ -8,7 +9,8 @@ use Rattle.std.proofs.lemmas.List.Sums.{sum_by-cons}
 use Rattle.byteorder.specs.Endian.{little_bytes, little_number}
 use Rattle.gs_tape.specs.Tick.{Tick}
 use Rattle.gs_tape.specs.Capture.{head, unit, delta, tick, file}
-use Rattle.gs_tape.specs.Reading.{Fault, Malformed, Full, AudioLength, unless, number_at, text_at, head_at, most_bytes, most_count, most_ticks, most_audio, unit_at, deltas_at, audio_at, Before, tick_at, ends_with, and_then, with_tick, ticks_at, before_first, read_behind, read}
+use Rattle.gs_tape.specs.Reading.{Fault, Malformed, Full, AudioLength, unless, number_at, text_at, head_at, most_bytes, most_count, most_ticks, most_audio}
+use Rattle.gs_tape.specs.Reading.{unit_at, deltas_at, audio_at, Before, tick_at, ends_with, and_then, with_tick, ticks_at, before_first, read_behind, read}
 use Rattle.gs_tape.specs.Limits.{IsWithinLimits, AreWithinLimits, AreWritable}
 use Rattle.gs_tape.specs.Tick.{unit_bytes}
 use Rattle.gs_tape.proofs.Readings.{delta_bytes}

@@ -1,5 +1,6 @@
 -- The capture that a number generates.
-use Rattle.std.specs.Prelude.{ℕ, zero, suc, ◌+◌, ◌-◌, ◌*◌, ◌/◌, ◌%◌, ◌^◌, List, [], ◌∷◌, ◌++◌, map, nat_lt, ◌==◌, if◌then◌else◌}
+use Rattle.std.specs.Prelude.{ℕ, zero, suc, ◌+◌, ◌-◌, ◌*◌, ◌/◌, ◌%◌, ◌^◌, List, [], ◌∷◌, ◌++◌, map, nat_lt, ◌==◌}
+use Rattle.std.specs.Prelude.{if◌then◌else◌}
 use Rattle.std.specs.List.{range_with_len}
 use Rattle.gs_tape.specs.Tick.{Tick, Delta}
 
@@ -38,11 +39,13 @@ with_delta t back so_far =
     else so_far
 
 abbrev pub deltas : ℕ → ℕ → Drawn (List Delta)
-deltas t state = with_delta t 1 (with_delta t 2 (with_delta t 4 (with_delta t 8 (record { value = []; state = state }))))
+deltas t state =
+    with_delta t 1 (with_delta t 2 (with_delta t 4 (with_delta t 8 (record { value = []; state = state }))))
 
 -- one more audio unit
 unfoldable pub with_sound : Drawn (List (List ℕ)) → Drawn (List (List ℕ))
-with_sound so_far = record { value = so_far.value ++ (unit_of 240 so_far.state).value ∷ []; state = (unit_of 240 so_far.state).state }
+with_sound so_far =
+    record { value = so_far.value ++ (unit_of 240 so_far.state).value ∷ []; state = (unit_of 240 so_far.state).state }
 
 -- three audio units, four where t is a multiple of 3
 abbrev pub three_sounds : ℕ → Drawn (List (List ℕ))
@@ -58,7 +61,13 @@ tick t state =
     let behind = deltas t idr.state in
     let audio = sounds t behind.state in
     record {
-      value = record { number = t; time = (t - 1) * 1000 / 60; idr = idr.value; deltas = behind.value; audio = audio.value };
+      value = record {
+        number = t;
+        time = (t - 1) * 1000 / 60;
+        idr = idr.value;
+        deltas = behind.value;
+        audio = audio.value;
+      };
       state = audio.state;
     }
 

@@ -1,5 +1,6 @@
 -- What the bytes of a capture file hold: its ticks, and the first fault in the order of the bytes.
-use Rattle.std.specs.Prelude.{ℕ, zero, suc, ◌+◌, ◌-◌, ◌*◌, Bool, true, false, ◌&&◌, ◌||◌, not, List, [], ◌∷◌, length, take, drop, Option, Some, None, Result, Ok, Err, nat_lt, nat_le, ◌==◌, codes}
+use Rattle.std.specs.Prelude.{ℕ, zero, suc, ◌+◌, ◌-◌, ◌*◌, Bool, true, false, ◌&&◌, ◌||◌, not, List, [], ◌∷◌, length}
+use Rattle.std.specs.Prelude.{take, drop, Option, Some, None, Result, Ok, Err, nat_lt, nat_le, ◌==◌, codes}
 use Rattle.byteorder.specs.Endian.{little_number}
 use Rattle.gs_tape.specs.Tick.{Tick, Delta}
 pub use Rattle.gs_tape.specs.Limits.{most_ticks, most_bytes, most_unit, most_audio, most_count}

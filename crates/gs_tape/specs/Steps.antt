@@ -1,9 +1,11 @@
 -- The reading of a capture file in the steps in which a program makes it. A step is given the file's length and what
 -- is left of it, and answers a value and what is left then, or a fault.
-use Rattle.std.specs.Prelude.{ℕ, zero, suc, ◌+◌, ◌-◌, ◌*◌, ◌||◌, ◌&&◌, Bool, List, [], ◌∷◌, length, Result, Ok, nat_lt, nat_le, ◌==◌, not, codes}
+use Rattle.std.specs.Prelude.{ℕ, zero, suc, ◌+◌, ◌-◌, ◌*◌, ◌||◌, ◌&&◌, Bool, List, [], ◌∷◌, length, Result, Ok, nat_lt}
+use Rattle.std.specs.Prelude.{nat_le, ◌==◌, not, codes}
 use Rattle.gs_tape.specs.Tick.{Tick, Delta}
 use Rattle.gs_tape.specs.Limits.{most_audio, most_unit, most_bytes, most_count}
-use Rattle.gs_tape.specs.Reading.{Fault, Malformed, Full, UnitTooLarge, AudioLength, ◌>>=◌, unless, bytes_at, number_at, text_at, Before}
+use Rattle.gs_tape.specs.Reading.{Fault, Malformed, Full, UnitTooLarge, AudioLength, ◌>>=◌, unless, bytes_at, number_at}
+use Rattle.gs_tape.specs.Reading.{text_at, Before}
 
 abbrev pub Step : Type 0 → Type 0
 Step A = ℕ → List ℕ → Result (A × List ℕ) Fault

@@ -2,7 +2,8 @@
 use Rattle.std.specs.Prelude.{◌≡◌, ◌+◌, ℕ, List, length, Option, Some, None, Result, Ok, Err, IfSome, ⊤}
 use Rattle.gs_reader.specs.Buffered.{to_come}
 use Rattle.gs_tape.specs.Tick.{Tick, unit_bytes}
-use Rattle.gs_tape.specs.Reading.{Before, Fault, Read, and_then, audio_duration, audio_length, ends_with, head_at, read, ticks_at}
+use Rattle.gs_tape.specs.Reading.{Before, Fault, Read, and_then, audio_duration, audio_length, ends_with, head_at, read}
+use Rattle.gs_tape.specs.Reading.{ticks_at}
 use Rattle.gs_tape.specs.declared.error.TapeError.{TapeError}
 use Rattle.gs_tape.specs.declared.stage.Stage.{Stage}
 use Rattle.gs_tape.specs.declared.stage.Stage.TheVariants.{Open, Ended, Failed}

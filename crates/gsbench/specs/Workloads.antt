@@ -1,5 +1,6 @@
 -- The workloads: the words of each behind its name, and when an answer blames one.
-use Rattle.std.specs.Prelude.{◌≡◌, ◌≢◌, ◌⊎◌, ◌↔◌, ◌-◌, ◌^◌, ℕ, List, [], ◌∷◌, Option, Some, None, Result, Err, String, string_bytes, codes, if◌then◌else◌, min, nat_eq}
+use Rattle.std.specs.Prelude.{◌≡◌, ◌≢◌, ◌⊎◌, ◌↔◌, ◌-◌, ◌^◌, ℕ, List, [], ◌∷◌, Option, Some, None, Result, Err, String}
+use Rattle.std.specs.Prelude.{string_bytes, codes, if◌then◌else◌, min, nat_eq}
 use Rattle.std.specs.Cmp.Lexicographic.{pointwise}
 use Rattle.std.specs.List.{slice_get}
 use Rattle.std.specs.Option.{option_map_or}
@@ -141,4 +142,5 @@ IsStopAtCode words stop =
 abbrev pub IsStopAtStream : List (String Global) → Stop → Type 0
 IsStopAtStream words stop =
     ((stop ≡ Usage 2) × (number_word words 1 least_packet most_packet ≡ None))
-    ⊎ ((stop ≡ Usage 3) × (number_word words 1 least_packet most_packet ≢ None) × (number_word words 2 0 most_percentage ≡ None))
+    ⊎ ((stop ≡ Usage 3) × (number_word words 1 least_packet most_packet ≢ None)
+    × (number_word words 2 0 most_percentage ≡ None))

@@ -12,7 +12,9 @@ split : (points : List ℕ) (i x one two both : ℕ) → ArePoints points → i 
     → one ≡ difference_product (take i points) x → two ≡ difference_product (take (length points - (i + 1)) (drop (i + 1) points)) x → both ≡ product one two
     → both ≡ difference_product (remove points i) x
 split points i x one two both given inside hx e1 e2 e =
-    e ∙ ap (λ z. product z two) e1 ∙ ap (product (difference_product (take i points) x)) (e2 ∙ ap (λ qs. difference_product qs x) (take_rest points (i + 1)) ∙ ap (λ k. difference_product (drop k points) x) (add-one i))
+    e ∙ ap (λ z. product z two) e1
+    ∙ ap (product (difference_product (take i points) x)) (e2 ∙ ap (λ qs. difference_product qs x) (take_rest points (i + 1))
+    ∙ ap (λ k. difference_product (drop k points) x) (add-one i))
     ∙ sym (differences-split points i given inside x hx)
 
 module _ (points : List ℕ) (i x : ℕ) (given : ArePoints points) (inside : i < length points) (hx : IsByte x) where
@@ -32,7 +34,8 @@ inv-requires c =
     let points = c.args.points.now in
     let given = points_of points (λ k. (c.type_inv.points k).fits) c.requires.distinct in
     let point = get_or points c.args.i 0 in
-    let e = split points c.args.i point _ _ _ given c.requires.in_range (c.type_inv.points c.args.i).fits c.difference_product-3.ensures c.difference_product-4.ensures c.mul-denominator.ensures in
+    let e = split points c.args.i point _ _ _ given c.requires.in_range (c.type_inv.points c.args.i).fits c.difference_product-3.ensures
+    c.difference_product-4.ensures c.mul-denominator.ensures in
     λ none. differences-ne-zero points c.args.i given c.requires.in_range (sym e ∙ none)
 
 pub returns : goal.returns
@@ -41,6 +44,8 @@ returns c =
     let i = c.args.i in
     let given = points_of points (λ k. (c.type_inv.points k).fits) c.requires.distinct in
     let point = get_or points i 0 in
-    let en = split points i c.args.x _ _ _ given c.requires.in_range (omega arith) c.difference_product.ensures c.difference_product-2.ensures c.mul-numerator.ensures in
-    let ed = split points i point _ _ _ given c.requires.in_range (c.type_inv.points i).fits c.difference_product-3.ensures c.difference_product-4.ensures c.mul-denominator.ensures in
+    let en = split points i c.args.x _ _ _ given c.requires.in_range (omega arith) c.difference_product.ensures c.difference_product-2.ensures
+    c.mul-numerator.ensures in
+    let ed = split points i point _ _ _ given c.requires.in_range (c.type_inv.points i).fits c.difference_product-3.ensures c.difference_product-4.ensures
+    c.mul-denominator.ensures in
     ratio points i c.args.x given c.requires.in_range (omega arith) _ _ _ _ en ed c.inv.ensures.value c.mul.ensures

@@ -11,7 +11,8 @@ use Rattle.gs_refs.proofs.walk.walk.Goals.{else-frame-greatest-via-then-frame-gr
 pub loop-place-init : goal.loop-place-init
 loop-place-init c =
     let entries = c.args.entries.now in
-    let whole : reverse (take (length entries) entries) ≡ reverse entries = ap (λ (l : List Entry). reverse l) (take_all (length entries) entries (omega arith)) in
+    let whole : reverse (take (length entries) entries) ≡ reverse entries =
+    ap (λ (l : List Entry). reverse l) (take_all (length entries) entries (omega arith)) in
     record {
       count = c.requires ∙ sym (ap frames whole);
       walked = subst (λ (l : List Entry). Walked (reverse entries) c.args.tick.now l c.args.sent) (sym whole)

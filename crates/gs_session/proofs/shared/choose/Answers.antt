@@ -12,7 +12,8 @@ returns-in-Ok c =
     let tick = c.args.tick.now in
     let before = c.reserve.new.self.history in
     let after = c.choose.new.self.history in
-    let it = answered-choose before after tick c.choose.result (c.choose.ensures.answer ∙ ap (choose_answer before) c.deref.ensures) c.choose.ensures.err c.choose.ensures.ok in
+    let it = answered-choose before after tick c.choose.result (c.choose.ensures.answer
+    ∙ ap (choose_answer before) c.deref.ensures) c.choose.ensures.err c.choose.ensures.ok in
     inl
     (subst (λ (h : List Entry). IsAnswered h (call.Choose tick) (reply.Chosen c.chosen.result) after) c.reserve.ensures.history
     (subst (λ (r : Result _ _). IsAnswered before (call.Choose tick) (reply.Chosen r) after) (sym c.chosen.ensures) it))

@@ -13,9 +13,11 @@ returns-in-Ok c =
     let last = c.args.last in
     let before = c.reserve.new.self.history in
     let after = c.invalidate.new.self.history in
-    let it = answered-invalidate before after (to_z w64 (of_z w64 first)) (to_z w64 (of_z w64 last)) c.invalidate.result c.invalidate.ensures.answer c.invalidate.ensures.unchanged
+    let it = answered-invalidate before after (to_z w64 (of_z w64 first)) (to_z w64 (of_z w64 last)) c.invalidate.result c.invalidate.ensures.answer
+    c.invalidate.ensures.unchanged
     c.invalidate.ensures.named in
-    let now = subst (λ (r : Result _ _). IsAnswered before (call.Invalidate (to_z w64 (of_z w64 first)) (to_z w64 (of_z w64 last))) (reply.Taken r) after) (sym c.taken.ensures) it in
+    let now = subst (λ (r : Result _ _). IsAnswered before (call.Invalidate (to_z w64 (of_z w64 first)) (to_z w64 (of_z w64 last))) (reply.Taken r) after)
+    (sym c.taken.ensures) it in
     let at_first = subst (λ (z : ℤ). IsAnswered before (call.Invalidate z (to_z w64 (of_z w64 last))) (reply.Taken c.taken.result) after)
     (to_z-of_z w64 first c.ranges.first) now in
     let at_last = subst (λ (z : ℤ). IsAnswered before (call.Invalidate first z) (reply.Taken c.taken.result) after)

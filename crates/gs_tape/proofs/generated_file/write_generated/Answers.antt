@@ -3,7 +3,8 @@ use Rattle.gs_tape.specs.Tick.{Tick}
 use Rattle.gs_tape.specs.Capture.{file}
 use Rattle.gs_tape.specs.Generated.{generated, to_come}
 use Rattle.gs_tape.proofs.GeneratedWithin.{generated_is_writable}
-use Rattle.gs_tape.proofs.GeneratedFile.{AreNext, Written, all_next, first_next, others_next, head_part, same_faults, written_end_part, written_head, written_on, written_so_far, written_tick_part, written_whole}
+use Rattle.gs_tape.proofs.GeneratedFile.{AreNext, Written, all_next, first_next, others_next, head_part, same_faults, written_end_part, written_head}
+use Rattle.gs_tape.proofs.GeneratedFile.{written_on, written_so_far, written_tick_part, written_whole}
 use Rattle.gs_tape.proofs.generated_file.write_generated.Goals as goal
 
 pub put-requires : goal.put-requires

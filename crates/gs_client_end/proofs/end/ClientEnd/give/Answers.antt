@@ -19,7 +19,8 @@ returns c =
     (λ done. (session : ℕ) (part : Part) → StandsFor c.args.self.now session part
     → Gives session c.args.event.now part done c.give_message.new.self c.args.reporter.now c.give_message.new.reporter)
     (λ done gives session part h.
-    same_message session c.channel_of.result (event_channel c.args.event.now) out (bytes_of (message.Input c.args.event.now)) part done c.give_message.new.self c.args.reporter.now
+    same_message session c.channel_of.result (event_channel c.args.event.now) out (bytes_of (message.Input c.args.event.now)) part done c.give_message.new.self
+    c.args.reporter.now
     c.give_message.new.reporter c.channel_of.ensures
     (bytes_written (message.Input c.args.event.now) _ c.write-length.new.out c.write-length.result c.write-length.ensures.length c.write-length.ensures.written)
     (gives session part h)) c.give_message.ensures

@@ -13,7 +13,8 @@ use Rattle.gs_fecqueue.specs.declared.frame.Frame.{Frame}
 use Rattle.gs_fecqueue.specs.Holding.{HoldsBlock, Brings}
 use Rattle.gs_fecqueue.specs.BlockVerdict.{block_verdict}
 use Rattle.gs_fecqueue.specs.FrameHolding.{HoldsBlockOf, HoldsBlocks, HoldsFrame, frame_verdict, counted_behind, completed}
-use Rattle.gs_fecqueue.proofs.FrameTaking.{lifted, lifted-other, frame_verdict-is, counted-same, completed-counts, TakenByBlock, taken_by_block, taken-blocks, taken-holds}
+use Rattle.gs_fecqueue.proofs.FrameTaking.{lifted, lifted-other, frame_verdict-is, counted-same, completed-counts, TakenByBlock, taken_by_block, taken-blocks}
+use Rattle.gs_fecqueue.proofs.FrameTaking.{taken-holds}
 use Rattle.gs_fecqueue.proofs.frame.Frame.take.Goals as goal
 
 -- the verdict of a datagram whose block didn't become whole
@@ -47,10 +48,16 @@ returns-in_default-clause-verdict c = λ s counted first r was frame_is brings.
     let four : length frame.blocks ≡ 4 = search rules in
     let old = get_or frame.blocks c.from.result c.index-self-from.result in
     let there : slice_get frame.blocks c.from.result ≡ Some old = slice_get-get_or frame.blocks c.from.result c.index-self-from.result (omega arith) in
-    let by = taken_by_block s frame (record frame { blocks = set frame.blocks c.from.result c.take.new.self; four = length-set frame.blocks c.from.result c.take.new.self ∙ frame.four }) counted first r c.args.head.now
+    let by = taken_by_block s frame
+    (record frame { blocks = set frame.blocks c.from.result c.take.new.self; four = length-set frame.blocks c.from.result c.take.new.self ∙ frame.four })
+    counted first r c.args.head.now
     c.args.payload.now c.from.result old c.take.new.self c.take.result was frame_is brings c.requires.grammar c.from.ensures there
     (λ held o h. c.take.ensures.verdict s held o r h brings) (λ held o h. c.take.ensures.holds s held o r h brings) refl refl refl in
-    verdict-other s frame (record frame { blocks = set frame.blocks c.from.result c.take.new.self; four = length-set frame.blocks c.from.result c.take.new.self ∙ frame.four }) counted first r c.take.result was by
+    verdict-other s frame (record frame {
+      blocks = set frame.blocks c.from.result c.take.new.self;
+      four = length-set frame.blocks c.from.result c.take.new.self
+          ∙ frame.four;
+    }) counted first r c.take.result was by
     c.in_default.not-BlockWhole
 
 pub returns-in_default-clause-holds : goal.returns-in_default-clause-holds
@@ -69,7 +76,11 @@ returns-in-BlockWhole-clause-verdict c = λ s counted first r was frame_is bring
     let frame = c.args.self.now in
     let four : length frame.blocks ≡ 4 = search rules in
     let old = get_or frame.blocks c.from.result c.index-self-from.result in
-    let mid = record frame { blocks = set frame.blocks c.from.result c.take.new.self; four = length-set frame.blocks c.from.result c.take.new.self ∙ frame.four } in
+    let mid = record frame {
+      blocks = set frame.blocks c.from.result c.take.new.self;
+      four = length-set frame.blocks c.from.result c.take.new.self
+          ∙ frame.four;
+    } in
     let there : slice_get frame.blocks c.from.result ≡ Some old = slice_get-get_or frame.blocks c.from.result c.index-self-from.result (omega arith) in
     let by = taken_by_block s frame mid counted first r c.args.head.now
     c.args.payload.now c.from.result old c.take.new.self c.take.result was frame_is brings c.requires.grammar c.from.ensures there

@@ -1,4 +1,5 @@
-use Rattle.std.proofs.Common.{◌≡◌, ◌≢◌, ◌<◌, ◌≤◌, ◌+◌, ◌-◌, ◌%◌, ℕ, Bool, true, false, List, ◌∷◌, length, get_or, set, Option, Some, None, refl, sym, ap, subst, ◌∙◌, arith, rules}
+use Rattle.std.proofs.Common.{◌≡◌, ◌≢◌, ◌<◌, ◌≤◌, ◌+◌, ◌-◌, ◌%◌, ℕ, Bool, true, false, List, ◌∷◌, length, get_or, set, Option, Some, None, refl, sym, ap, subst}
+use Rattle.std.proofs.Common.{◌∙◌, arith, rules}
 use Rattle.std.specs.Prelude.{if◌then◌else◌}
 use Rattle.std.specs.List.{slice_get}
 use Rattle.std.proofs.lemmas.Bool.{cond-false}
@@ -23,7 +24,8 @@ use Rattle.gs_fecqueue.proofs.Ready.{IsReadyFor, ready, stands-with}
 use Rattle.gs_fecqueue.proofs.queue.Queue.take.Goals as goal
 
 -- what the frame's verdict gives
-taken : (q2 q3 : Queue) (c : ClientSettings) (now : List Received) (r : Received) (head : VideoHead) (payload : List ℕ) (place : ℕ) (old new : Frame) (v : Added)
+taken : (q2 q3 : Queue) (c : ClientSettings) (now : List Received) (r : Received) (head : VideoHead) (payload : List ℕ) (place : ℕ) (old new : Frame)
+    (v : Added)
     → IsReadyFor q2 c now r → is_left c.window now r.head.frame ≡ false → Brings c.stream head payload r → 1 ≤ r.head.frame
     → ((f : ℕ) → HasCome now f → 1 ≤ f)
     → place ≡ r.head.frame % c.window → slice_get q2.frames.items place ≡ Some old → new.number ≡ old.number

@@ -16,7 +16,8 @@ use Rattle.gs_host_core.specs.Turning.{IsSentInPart}
 use Rattle.gs_host_core.proofs.Lists.{err-same, if-failed, on-failed, when_err}
 use Rattle.gs_host_core.proofs.Gained.{audio-none, gains-front, gains-nothing}
 use Rattle.gs_host_core.proofs.Failing.{counted-audio, counted-none, counted-video, handed-on, link-answer, refused-no_fault, sent-not_refused}
-use Rattle.gs_host_core.proofs.Turned.{agrees, audio-front, audio-gains, few-are, history-is, is-turn, pushes, sizes-are, stands-again, video-front, video-gains}
+use Rattle.gs_host_core.proofs.Turned.{agrees, audio-front, audio-gains, few-are, history-is, is-turn, pushes, sizes-are, stands-again, video-front}
+use Rattle.gs_host_core.proofs.Turned.{video-gains}
 use Rattle.gs_host_core.proofs.host.Host.turn.Goals as goal
 
 pub choose-requires : goal.choose-requires

@@ -10,7 +10,8 @@ pub returns-in-Up-clause-attempted : goal.returns-in-Up-clause-attempted
 returns-in-Up-clause-attempted c =
     IfOk-weaker c.take_up.result _ _
     (λ done took scene part at h.
-    subst (λ (d : Delivery). Attempts scene (run_delivery d) part done (record c.args.self.now { host = c.take_up.new.self }) c.args.reporter.now c.take_up.new.reporter)
+    subst (λ (d : Delivery). Attempts scene (run_delivery d) part done (record c.args.self.now { host = c.take_up.new.self }) c.args.reporter.now
+    c.take_up.new.reporter)
     (sym c.in-Up.is)
     (takes_up scene c.args.now c.in-Up.number part done c.args.self.now c.take_up.new.self c.args.reporter.now c.take_up.new.reporter at h
     (took scene.session scene.ticks part h.host (c.side.ensures scene.session part h.client))))
@@ -20,7 +21,8 @@ pub returns-in-Down-clause-attempted : goal.returns-in-Down-clause-attempted
 returns-in-Down-clause-attempted c =
     IfOk-weaker c.take_down.result _ _
     (λ done took scene part at h.
-    subst (λ (d : Delivery). Attempts scene (run_delivery d) part done (record c.args.self.now { client = c.take_down.new.self }) c.args.reporter.now c.take_down.new.reporter)
+    subst (λ (d : Delivery). Attempts scene (run_delivery d) part done (record c.args.self.now { client = c.take_down.new.self }) c.args.reporter.now
+    c.take_down.new.reporter)
     (sym c.in-Down.is)
     (takes_down scene c.args.now c.in-Down.number part done c.args.self.now c.take_down.new.self c.args.reporter.now c.take_down.new.reporter at h
     (took scene.session part h.client (c.side-in-Down.ensures scene.session scene.ticks part h.host))))

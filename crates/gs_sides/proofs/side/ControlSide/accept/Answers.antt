@@ -14,7 +14,8 @@ pub returns : goal.returns
 returns c =
     let stands : IsPeerOf c.in_ok-peer.peer (accepting c.args.own c.args.other c.args.connect_id c.args.now) =
     subst (λ (id : ℕ). IsPeerOf c.in_ok-peer.peer (accepting c.args.own c.args.other id c.args.now)) c.request.ensures.connect_id
-    (subst (λ (own : ℕ). IsPeerOf c.in_ok-peer.peer (accepting c.args.own own c.request.result.connect_id c.args.now)) c.request.ensures.peer c.in_ok-peer.ensures) in
+    (subst (λ (own : ℕ). IsPeerOf c.in_ok-peer.peer (accepting c.args.own own c.request.result.connect_id c.args.now)) c.request.ensures.peer
+    c.in_ok-peer.ensures) in
     IfOk-weaker c.of.result (λ side. (r : PeerRecord) → IsPeerOf c.in_ok-peer.peer r → IsNew r → StandsFor side (new_side r))
     (λ side. StandsFor side (new_side (accepting c.args.own c.args.other c.args.connect_id c.args.now)))
     (λ side begins. begins _ stands (record { given = refl; waiting = refl; up = refl })) c.of.ensures

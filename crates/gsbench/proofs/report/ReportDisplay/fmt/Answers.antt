@@ -24,7 +24,8 @@ returns-in-Calls-clause-writes g c =
     let report = c.args.self.now in
     let pad = padded_integral (format_spec 32 0 4 8 (2 ^ 64 - 1)) false [] in
     let word : styled_digits_output c.in_radix-in-Calls.result c.laid_out-in-Calls.result ≡ Some (hex_word report.checksum) =
-    rw c.laid_out-in-Calls.ensures (ap (option_map pad) c.in_radix-in-Calls.ensures ∙ ap (λ (t : List ℕ). Some t) (eight_wide (digits 16 false report.checksum))) in
+    rw c.laid_out-in-Calls.ensures (ap (option_map pad) c.in_radix-in-Calls.ensures
+    ∙ ap (λ (t : List ℕ). Some t) (eight_wide (digits 16 false report.checksum))) in
     let At : Option (List ℕ) → Type 0 = λ o. DisplaysOnOk g.W.Write.write_str_gives c.args.f.now c.write-in-Calls.result
     (Some (codes "checksum ") ++? (o ++? Some (codes " calls " ++ decimal report.amount))) c.write-in-Calls.new.self in
     let Line : Counted → Type 0 = λ k. DisplaysOnOk g.W.Write.write_str_gives c.args.f.now c.write-in-Calls.result
