@@ -23,8 +23,8 @@ ghost use Rattle.gs_rtp.specs.Video.{parity_count};
 ghost use Rattle.gs_rs.specs.Codeword.{shard_of};
 ghost use Rattle.gs_frames.specs.Received.{Received};
 ghost use Rattle.gs_frames.specs.Complete.{joined_payloads};
-ghost use Rattle.gs_frames.specs.Shards.{payload_of};
-ghost use Rattle.gs_fecqueue.specs.Limits.{most_payload, most_of_block};
+ghost use Rattle.gs_frames.specs.Shards.{most_payload, payload_of};
+ghost use Rattle.gs_fecqueue.specs.Limits.{most_of_block};
 ghost use Rattle.gs_fecqueue.specs.Places.{AreShards, HasFlagsOf, HasPlaced};
 
 use gs_bytes::OutOfMemory;

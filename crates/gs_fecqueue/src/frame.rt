@@ -1,7 +1,9 @@
 // A frame: its blocks, and its image where each of them is whole.
 
 ghost use Rattle.std.specs.Prelude.{◌≡◌, ◌≤◌, ◌<◌, IfOk, length, vec_capacity};
-ghost use Rattle.gs_fecqueue.specs.Limits.{most_payload, most_blocks, most_of_image};
+ghost use Rattle.gs_frames.specs.Plan.{most_blocks};
+ghost use Rattle.gs_frames.specs.Shards.{most_payload};
+ghost use Rattle.gs_fecqueue.specs.Limits.{most_of_image};
 
 use crate::block::{Block, DATA_GREATEST};
 use crate::join::{clear_blocks, join};

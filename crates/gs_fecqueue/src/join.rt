@@ -3,7 +3,9 @@
 ghost use Rattle.std.specs.Prelude.{◌≡◌, ◌≤◌, length, All, vec_capacity};
 ghost use Rattle.std.specs.List.{flat_map};
 ghost use Rattle.gs_fecqueue.specs.Holding.{data_of};
-ghost use Rattle.gs_fecqueue.specs.Limits.{most_payload, most_blocks, most_of_image};
+ghost use Rattle.gs_frames.specs.Plan.{most_blocks};
+ghost use Rattle.gs_frames.specs.Shards.{most_payload};
+ghost use Rattle.gs_fecqueue.specs.Limits.{most_of_image};
 
 use crate::block::Block;
 

@@ -39,7 +39,8 @@ impl Queue {
     ghost use Rattle.gs_frames.specs.Received.{Received, taken, is_left};
     ghost use Rattle.gs_frames.specs.Verdict.{counting, judged, verdict};
     ghost use Rattle.gs_frames.specs.VerdictLaws.{image_of};
-    ghost use Rattle.gs_fecqueue.specs.Limits.{most_payload, most_blocks};
+    ghost use Rattle.gs_frames.specs.Plan.{most_blocks};
+    ghost use Rattle.gs_frames.specs.Shards.{most_payload};
     ghost use Rattle.gs_fecqueue.specs.Holding.{Brings};
     ghost use Rattle.gs_fecqueue.specs.Moves.{is_whole_below, moved_behind, moved_by};
     ghost use Rattle.gs_fecqueue.specs.Standing.{is_at_hand, all_but_last, IsAt, IsAmong, IsStanding, StandsFor};

@@ -15,6 +15,7 @@ pub record BlockPlan : Type 0 where
 abbrev pub most_shards : ℕ → ℕ
 most_shards percentage = 25500 / (100 + percentage)
 
+-- the most blocks of a frame
 abbrev pub most_blocks : ℕ
 most_blocks = most_last_block + 1
 

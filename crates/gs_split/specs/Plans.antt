@@ -1,15 +1,9 @@
 -- A plan of the blocks of a frame, as the list of blocks that it stands for.
-use Rattle.std.specs.Prelude.{ℕ, ◌-◌, ◌≡◌, ◌==◌, ◌||◌, List, map, drop, slice_index, All, if◌then◌else◌}
+use Rattle.std.specs.Prelude.{ℕ, ◌≡◌, ◌==◌, ◌||◌, List, map, drop, slice_index, All, if◌then◌else◌}
 use Rattle.std.specs.List.{range_with_len}
-use Rattle.gs_rtp.specs.Limits.{most_packet}
 use Rattle.gs_frames.specs.Plan.{BlockPlan, with_parity, without_parity}
-use Rattle.gs_frames.specs.Shards.{packet_header}
 use Rattle.gs_split.specs.declared.plan.Plan.{Plan}
 use Rattle.gs_split.specs.declared.plan.Block.{Block}
-
--- bytes of a payload
-abbrev pub most_payload : ℕ
-most_payload = most_packet - packet_header
 
 -- what the plan says of a block
 abbrev pub block_at : Plan → ℕ → BlockPlan

@@ -8,8 +8,7 @@ ghost use Rattle.gs_rtp.specs.Stream.{numbers_of};
 ghost use Rattle.gs_frames.specs.Datagrams.{frame_shards};
 ghost use Rattle.gs_frames.specs.Image.{packets};
 ghost use Rattle.gs_frames.specs.ImageLaws.{IsWrittenKind};
-ghost use Rattle.gs_frames.specs.Shards.{payload_of};
-ghost use Rattle.gs_split.specs.Plans.{most_payload};
+ghost use Rattle.gs_frames.specs.Shards.{most_payload, payload_of};
 ghost use Rattle.gs_split.specs.Splitting.{KeepsShards, has_parity_at};
 ghost use Rattle.gs_split.specs.Loaded.{
   IsPlanned,

@@ -3,7 +3,7 @@
 ghost use Rattle.std.specs.Prelude.{◌≡◌, ◌≤◌, ◌+◌, ◌-◌, ◌*◌, ◌++◌, length, take, drop, min, replicate};
 ghost use Rattle.gs_bytes.specs.Limits.{most_unit};
 ghost use Rattle.gs_frames.specs.Image.{frame_image, last_length, packets};
-ghost use Rattle.gs_split.specs.Plans.{most_payload};
+ghost use Rattle.gs_frames.specs.Shards.{most_payload};
 
 use gs_frames::{IMAGE_HEADER_LENGTH, write_image_header};
 
