@@ -1,2 +1,4 @@
 pub mod Spelling
 pub mod Moving
+pub mod Parting
+pub mod Ending

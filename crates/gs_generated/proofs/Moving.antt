@@ -1,18 +1,19 @@
--- Bytes are moved out of a piece.
+-- Bytes are moved out of a part.
 use Rattle.std.proofs.Common.{◌≡◌, ◌+◌, ℕ, List, ◌++◌, ◌-◌, length, length-drop, take, drop, sym, ap, ◌∙◌, append_assoc, take-append-drop}
-use Rattle.std.proofs.Math.Seq.{take-append_seam, take-length}
+use Rattle.std.proofs.Math.Seq.{take-length}
 use Rattle.std.proofs.lemmas.List.{drop-drop}
 
-pub moved : (piece rest out into : List ℕ) (at n : ℕ) → out ≡ take n (drop at piece) → length out ≡ n
-    → drop at piece ++ rest ≡ take n (out ++ drop n into) ++ (drop (at + n) piece ++ rest)
-moved piece rest out into at n is long =
-    let left : List ℕ = drop at piece in
-    let front : take n (out ++ drop n into) ≡ out = ap (λ (k : ℕ). take k (out ++ drop n into)) (sym long) ∙ take-append_seam out (drop n into) in
-    let parts : left ≡ out ++ drop (at + n) piece = sym (take-append-drop n left) ∙ ap (λ (l : List ℕ). l ++ drop n left) (sym is)
-    ∙ ap (λ (l : List ℕ). out ++ l) (drop-drop n at piece) in
-    ap (λ (l : List ℕ). l ++ rest) parts ∙ append_assoc out (drop (at + n) piece) rest
-    ∙ ap (λ (l : List ℕ). l ++ (drop (at + n) piece ++ rest)) (sym front)
+-- behind a front some of what is left of a part is moved
+pub moved : (front part rest : List ℕ) (at n : ℕ)
+    → front ++ (drop at part ++ rest) ≡ (front ++ take n (drop at part)) ++ (drop (at + n) part ++ rest)
+moved front part rest at n =
+    let left : List ℕ = drop at part in
+    let parts : left ≡ take n left ++ drop (at + n) part =
+    sym (take-append-drop n left) ∙ ap (λ (l : List ℕ). take n left ++ l) (drop-drop n at part) in
+    ap (λ (l : List ℕ). front ++ (l ++ rest)) parts
+    ∙ ap (λ (l : List ℕ). front ++ l) (append_assoc (take n left) (drop (at + n) part) rest)
+    ∙ sym (append_assoc front (take n left) (drop (at + n) part ++ rest))
 
 -- behind a place there is as much as is left
-pub rest_whole : (piece : List ℕ) (at : ℕ) → take (length piece - at) (drop at piece) ≡ drop at piece
-rest_whole piece at = ap (λ (k : ℕ). take k (drop at piece)) (sym (length-drop at piece)) ∙ take-length (drop at piece)
+pub rest_whole : (part : List ℕ) (at : ℕ) → take (length part - at) (drop at part) ≡ drop at part
+rest_whole part at = ap (λ (k : ℕ). take k (drop at part)) (sym (length-drop at part)) ∙ take-length (drop at part)

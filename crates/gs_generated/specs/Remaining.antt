@@ -1,11 +1,10 @@
 -- What remains of a generated file.
-use Rattle.std.specs.Prelude.{ℕ, ◌≡◌, ◌≤◌, Bool, true, false, List, [], ◌∷◌, ◌++◌, length, take, drop, Option, Some}
-use Rattle.std.specs.Prelude.{None}
+use Rattle.std.specs.Prelude.{ℕ, ◌≡◌, ◌≤◌, Bool, true, false, List, [], ◌∷◌, ◌++◌, drop, Option, Some, None}
 use Rattle.std.specs.List.{flat_map}
 use Rattle.gs_tape.specs.Tick.{Tick}
 use Rattle.gs_tape.specs.Capture as capture
 use Rattle.gs_tape.specs.Generated.{generated, to_come}
-use Rattle.gs_tape.specs.Writer.{Writing, after_tick, opened}
+use Rattle.gs_generated.specs.Parting.{IsWithin, parts_left}
 use Rattle.gs_generated.specs.declared.pieces.Pieces.{Pieces}
 use Rattle.gs_generated.specs.declared.unspelled.Unspelled.{Unspelled}
 
@@ -26,22 +25,16 @@ abbrev pub bytes_left : Bool → Unspelled → List ℕ
 bytes_left true u = []
 bytes_left false u = flat_map capture.tick (ticks_left u) ++ 0x45 ∷ []
 
--- a writer behind these ticks
-abbrev pub all_after : Writing → List Tick → Writing
-all_after w [] = w
-all_after w (t ∷ ts) = all_after (after_tick w t) ts
-
 -- The first of the generated ticks are spelled, and the others are left.
 pub record IsSound (u : Unspelled) : Type 0 where
   pub few : u.ticks ≤ 2000
   pub left : ticks_left u ≡ drop u.spelled (generated u.number u.ticks)
-  pub behind : u.writer ≡ all_after (opened 240) (take u.spelled (generated u.number u.ticks))
 
--- a piece is read no further than its end
+-- a part is read no further than its end
 pub record IsWhole (p : Pieces) : Type 0 where
   pub sound : IsSound p.unspelled
-  pub within : p.at ≤ length p.piece.written
+  pub within : IsWithin p.parts
 
--- what is left of the last piece, and what isn't spelled yet
+-- what is left of the parts that were spelled last, and what isn't spelled yet
 abbrev pub pieces_left : Pieces → List ℕ
-pieces_left p = drop p.at p.piece.written ++ bytes_left p.ended p.unspelled
+pieces_left p = parts_left p.parts ++ bytes_left p.ended p.unspelled

@@ -5,10 +5,12 @@ ghost use Rattle.gs_tape.specs.Generated.{generated};
 ghost use Rattle.gs_tape.specs.Capture.{file};
 ghost use Rattle.gs_generated.specs.Remaining.{IsWhole};
 
+use crate::parts::Parts;
 use crate::pieces::Pieces;
-use crate::unspelled::Unspelled;
+use crate::unspelled::{Unspelled, file_head};
 use gs_bytes::{Failed, OutOfMemory, Outside, Source};
 use std::alloc::Global;
+use std::collections::VecDeque;
 use std::marker::Model;
 
 /// The capture file that a number generates. Contracts see the bytes that are left to read.
@@ -33,12 +35,15 @@ impl GeneratedFile {
         requires { ticks ≤ 2000 }
         ensures { IfOk result (λ opened. opened.left ≡ file 240 5 (generated number ticks)) }
     {
-        let (unspelled, piece) = Unspelled::open(alloc, number, ticks)?;
-        let pieces = Pieces {
-            piece,
+        let parts = Parts {
+            part: file_head(alloc)?,
             at: 0,
+            more: VecDeque::new(alloc),
+        };
+        let pieces = Pieces {
+            parts,
             ended: false,
-            unspelled,
+            unspelled: Unspelled::of(number, ticks),
         };
         Ok(GeneratedFile { alloc, pieces })
     }
@@ -63,6 +68,10 @@ impl Source for GeneratedFile {
         ensures left { ReadConsumes (Some self.old.left) (Some self.new.left) result into.new }
         ensures counted { IsCounted 0 0 result }
     {
+        let count = self.pieces.read(into);
+        if count > 0 {
+            return Ok(count);
+        }
         self.pieces.refill(self.alloc)?;
         Ok(self.pieces.read(into))
     }

@@ -1,38 +1,38 @@
 // A generated file, piece by piece.
 
-ghost use Rattle.std.specs.Prelude.{◌≡◌, ◌++◌, ◌≤◌, ◌<◌, ◌⊎◌, true, length, take, OnOk};
+ghost use Rattle.std.specs.Prelude.{◌≡◌, ◌++◌, ◌≤◌, ◌<◌, ◌⊎◌, [], true, length, take, OnOk};
+ghost use Rattle.gs_generated.specs.Parting.{parts_left};
 ghost use Rattle.gs_generated.specs.Remaining.{IsWhole, pieces_left};
 
+use crate::parts::Parts;
 use crate::unspelled::Unspelled;
-use gs_bytes::{OutOfMemory, SureSink};
+use gs_bytes::OutOfMemory;
 use std::alloc::Global;
 
 /// What was spelled last, and what isn't spelled yet.
 #[derive(Drop)]
 pub(crate) struct Pieces {
-    pub(crate) piece: SureSink,
-    /// How much of the piece was read.
-    pub(crate) at: usize,
+    pub(crate) parts: Parts,
     /// Whether the end mark was spelled.
     pub(crate) ended: bool,
     pub(crate) unspelled: Unspelled,
 }
 
 impl Pieces {
-    /// Spells the next piece where the last one is read whole.
+    /// Spells the next piece, where the last one is read whole.
     pub(crate) fn refill(&mut self, alloc: Global) -> Result<(), OutOfMemory>
-        requires { IsWhole self.old }
+        requires whole { IsWhole self.old }
+        requires read { parts_left self.old.parts ≡ [] }
         ensures whole { IsWhole self.new }
         ensures same { pieces_left self.new ≡ pieces_left self.old }
-        ensures some { OnOk result ((self.new.at < length self.new.piece.written) ⊎ (self.new.ended ≡ true)) }
+        ensures some { OnOk result ((0 < length (parts_left self.new.parts)) ⊎ (self.new.ended ≡ true)) }
     {
-        if self.at < self.piece.written().len() || self.ended {
+        if self.ended {
             return Ok(());
         }
         let next = self.unspelled.next_piece(alloc)?;
-        self.piece = next.bytes;
+        self.parts.more = next.parts;
         self.ended = next.is_last;
-        self.at = 0;
         Ok(())
     }
 
@@ -42,14 +42,11 @@ impl Pieces {
         ensures whole { IsWhole self.new }
         ensures bound { result ≤ length into.new }
         ensures moved { pieces_left self.old ≡ take result into.new ++ pieces_left self.new }
-        ensures none { result ≡ 0 → 0 < length into.old → length self.old.piece.written ≤ self.old.at }
+        ensures parts { parts_left self.old.parts ≡ take result into.new ++ parts_left self.new.parts }
+        ensures none { result ≡ 0 → 0 < length into.old → parts_left self.new.parts ≡ [] }
         ensures ended { self.new.ended ≡ self.old.ended }
         ensures length { length into.new ≡ length into.old }
     {
-        let left = &self.piece.written()[self.at..];
-        let count = left.len().min(into.len());
-        into[..count].copy_from_slice(&left[..count]);
-        self.at += count;
-        count
+        self.parts.read(into)
     }
 }

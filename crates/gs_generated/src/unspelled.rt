@@ -1,13 +1,16 @@
 // What isn't spelled yet of a generated file.
 
 ghost use Rattle.std.specs.Prelude.{◌≡◌, ◌++◌, ◌≤◌, ◌<◌, [], ◌∷◌, true, false, length, None, OnOk, OnErr, IfOk};
+ghost use Rattle.std.specs.List.{concat};
 ghost use Rattle.gs_tape.specs.Generated.{generated};
 ghost use Rattle.gs_tape.specs.Capture.{head};
 ghost use Rattle.gs_generated.specs.Remaining.{IsSound, ticks_left, bytes_left};
 
-use gs_bytes::{OutOfMemory, SureSink, write_all};
-use gs_tape::{Generator, TapeWriter, Tick};
+use crate::tick_parts::parts_of;
+use gs_bytes::{OutOfMemory, SureSink};
+use gs_tape::{Generator, TapeWriter, Tick, Unit};
 use std::alloc::Global;
+use std::collections::VecDeque;
 
 /// The length of an audio unit of a generated file, in bytes.
 const AUDIO: u16 = 240;
@@ -26,43 +29,42 @@ pub(crate) struct Unspelled {
     /// How many ticks were spelled.
     spelled: u32,
     generator: Generator,
-    writer: TapeWriter,
     /// A tick that was generated and isn't spelled yet.
     tick: Option<Tick>,
 }
 
-/// Bytes of a generated file, and whether they are the last.
+/// Bytes of a generated file, part by part, and whether they are the last.
 #[derive(Drop)]
 pub(crate) struct Piece {
-    pub(crate) bytes: SureSink,
+    pub(crate) parts: VecDeque<Unit>,
     pub(crate) is_last: bool,
 }
 
+/// The head of a generated file.
+pub(crate) fn file_head(alloc: Global) -> Result<Unit, OutOfMemory>
+    ensures { IfOk result (λ bytes. bytes ≡ head 240 5) }
+{
+    let mut bytes = SureSink::new(alloc, usize::MAX)?;
+    if TapeWriter::open(alloc, AUDIO, DURATION, &mut bytes).is_err() {
+        return Err(OutOfMemory);
+    }
+    Unit::copy_of(alloc, bytes.written())
+}
+
 impl Unspelled {
-    /// The file of so many ticks that a number generates: all of it but its head, which is the piece.
-    pub(crate) fn open(
-        alloc: Global,
-        number: u32,
-        ticks: u32,
-    ) -> Result<(Unspelled, SureSink), OutOfMemory>
+    /// The file of so many ticks that a number generates, of which no tick is spelled.
+    pub(crate) fn of(number: u32, ticks: u32) -> Unspelled
         requires { ticks ≤ 2000 }
-        ensures sound { IfOk result (λ opened. IsSound opened.0) }
-        ensures all { IfOk result (λ opened. ticks_left opened.0 ≡ generated number ticks) }
-        ensures head { IfOk result (λ opened. opened.1.written ≡ head 240 5) }
+        ensures sound { IsSound result }
+        ensures all { ticks_left result ≡ generated number ticks }
     {
-        let mut piece = SureSink::new(alloc, usize::MAX)?;
-        let Ok(writer) = TapeWriter::open(alloc, AUDIO, DURATION, &mut piece) else {
-            return Err(OutOfMemory);
-        };
-        let unspelled = Unspelled {
+        Unspelled {
             number,
             ticks,
             spelled: 0,
             generator: Generator::new(number, ticks),
-            writer,
             tick: None,
-        };
-        Ok((unspelled, piece))
+        }
     }
 
     // Has the next tick at hand, where one is left.
@@ -83,39 +85,33 @@ impl Unspelled {
         requires { IsSound self.old }
         ensures sound { IsSound self.new }
         ensures bytes { IfOk result (λ piece. bytes_left false self.old
-            ≡ piece.bytes.written ++ bytes_left piece.is_last self.new) }
-        ensures some { IfOk result (λ piece. 0 < length piece.bytes.written) }
+            ≡ concat piece.parts.items ++ bytes_left piece.is_last self.new) }
+        ensures some { IfOk result (λ piece. 0 < length (concat piece.parts.items)) }
         ensures same { OnErr result (ticks_left self.new ≡ ticks_left self.old) }
     {
-        let mut bytes = SureSink::new(alloc, usize::MAX)?;
         self.generate(alloc)?;
         let Some(tick) = &self.tick else {
-            return end_piece(bytes);
+            return end_piece(alloc);
         };
-        let Ok(()) = self.writer.put(tick, &mut bytes) else {
-            return Err(OutOfMemory);
-        };
+        let parts = parts_of(alloc, tick)?;
         self.tick = None;
         self.spelled += 1;
         Ok(Piece {
-            bytes,
+            parts,
             is_last: false,
         })
     }
 }
 
 // The end mark.
-fn end_piece(empty: SureSink) -> Result<Piece, OutOfMemory>
-    requires { length empty.written ≡ 0 }
-    ensures bytes { IfOk result (λ piece. piece.bytes.written ≡ 0x45 ∷ []) }
+fn end_piece(alloc: Global) -> Result<Piece, OutOfMemory>
+    ensures bytes { IfOk result (λ piece. concat piece.parts.items ≡ 0x45 ∷ []) }
     ensures last { IfOk result (λ piece. piece.is_last ≡ true) }
 {
-    let mut bytes = empty;
-    if write_all(&mut bytes, &[END_MARK]).is_err() {
-        return Err(OutOfMemory);
-    }
+    let mut parts = VecDeque::new(alloc);
+    parts.push_back(Unit::copy_of(alloc, &[END_MARK])?)?;
     Ok(Piece {
-        bytes,
+        parts,
         is_last: true,
     })
 }

@@ -1,13 +1,27 @@
-use Rattle.std.proofs.Common.{sym, ap, ◌∙◌, arith}
+use Rattle.std.proofs.Common.{sym, ◌∙◌, arith}
 use Rattle.gs_tape.specs.Generated.{generated}
-use Rattle.gs_tape.specs.Writer.{Writing, after_tick, opened}
-use Rattle.gs_generated.proofs.Spelling.{is_next, rest_one, after_one, few_spelled, at_hand}
+use Rattle.gs_generated.proofs.Spelling.{keeps_limits, rest_one, few_spelled, at_hand}
 use Rattle.gs_generated.proofs.unspelled.Unspelled.next_piece.Goals as goal
 
-pub put-requires : goal.put-requires
-put-requires c =
+pub parts_of-requires-clause-audio : goal.parts_of-requires-clause-audio
+parts_of-requires-clause-audio c =
     let u = c.generate.new.self in
-    is_next u c.in-Some.tick _ c.generate.ensures.sound (at_hand u c.in-Some.tick c.in-Some.is)
+    omega (arith, (keeps_limits u c.in-Some.tick _ c.generate.ensures.sound (at_hand u c.in-Some.tick c.in-Some.is)).audio)
+
+pub parts_of-requires-clause-deltas : goal.parts_of-requires-clause-deltas
+parts_of-requires-clause-deltas c =
+    let u = c.generate.new.self in
+    omega (arith, (keeps_limits u c.in-Some.tick _ c.generate.ensures.sound (at_hand u c.in-Some.tick c.in-Some.is)).deltas)
+
+pub parts_of-requires-clause-idr : goal.parts_of-requires-clause-idr
+parts_of-requires-clause-idr c =
+    let u = c.generate.new.self in
+    omega (arith, (keeps_limits u c.in-Some.tick _ c.generate.ensures.sound (at_hand u c.in-Some.tick c.in-Some.is)).idr)
+
+pub parts_of-requires-clause-units : goal.parts_of-requires-clause-units
+parts_of-requires-clause-units c =
+    let u = c.generate.new.self in
+    (keeps_limits u c.in-Some.tick _ c.generate.ensures.sound (at_hand u c.in-Some.tick c.in-Some.is)).units
 
 pub overflow_add-self : goal.overflow_add-self
 overflow_add-self c =
@@ -22,6 +36,4 @@ returns-clause-sound c =
     record {
       few = c.generate.ensures.sound.few;
       left = sym (rest_one all u.spelled c.in-Some.tick _ is);
-      behind = c.in-Ok.ensures.writer ∙ ap (λ (w : Writing). after_tick w c.in-Some.tick) c.generate.ensures.sound.behind
-          ∙ sym (after_one (opened 240) all u.spelled c.in-Some.tick _ is);
     }
