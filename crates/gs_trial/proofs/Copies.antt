@@ -59,7 +59,7 @@ shorter n left left' piece is fits some =
 pub tape_answers : (number ticks : ℕ) (whole : List ℕ) (a b : Option (List ℕ)) (r : Result ⊤ TrialStatus) → whole ≡ generated_bytes number ticks
     → OnOk r (Appends a b whole)
     → OnErr r (WritesFront a b whole) → IfErr r (λ e. (e ≡ status.WriteFault) ⊎ (e ≡ status.OutOfMemory)) → AnswersTape number ticks a b (answer_of r)
-tape_answers number ticks whole a b (Ok done) is all front cause = subst (Appends a b) is all
+tape_answers number ticks whole a b (Ok done) is all front cause = (refl, subst (Appends a b) is all)
 tape_answers number ticks whole a b (Err e) is all front cause =
     let written : WritesFront a b (generated_bytes number ticks) = subst (WritesFront a b) is front in
     elim cause [

@@ -57,9 +57,13 @@ pub record AnswersMake (number ticks : ℕ) (old new : Option (List ℕ)) (answe
   pub writes : WritesRun Sums run old new answer
   pub holds : RunHolds (generated_file number ticks) run
 
+-- The generated capture file was written whole where the answer is Ok, which is the only one of a run's own answers
+-- that can come; where the answer isn't the run's, a front of it.
 abbrev pub AnswersTape : ℕ → ℕ → (old new : Option (List ℕ)) → TrialStatus → Type 0
-AnswersTape number ticks old new status.Ok = Appends old new (generated_bytes number ticks)
-AnswersTape number ticks old new _ = WritesFront old new (generated_bytes number ticks)
+AnswersTape number ticks old new answer =
+    MatchBool (is_of_run answer)
+    ((answer ≡ status.Ok) × Appends old new (generated_bytes number ticks))
+    (WritesFront old new (generated_bytes number ticks))
 
 abbrev pub Answers : TrialCommand → (tape schedule old new : Option (List ℕ)) → TrialStatus → Type 0
 Answers (Script detail) tape schedule old new answer = AnswersIfTold detail tape schedule old new answer
@@ -73,6 +77,14 @@ CompletesIfTold (Some tape) None answer = ⊤
 CompletesIfTold (Some tape) (Some schedule) answer =
     (run : Run) → IsRun (file_of tape) (lines_of schedule) run → run.status ≡ status.Ok
     → (answer ≡ status.Ok) ⊎ (answer ≡ status.OutOfMemory)
+
+-- Where no write failed, only memory may be wanting to a generated capture file, and to a generated run that ends well.
+abbrev pub CompletesGenerated : TrialCommand → TrialStatus → Type 0
+CompletesGenerated (Script detail) answer = ⊤
+CompletesGenerated (Make generated) answer =
+    (run : Run) → IsGeneratedRun generated.number generated.ticks run → run.status ≡ status.Ok
+    → (answer ≡ status.Ok) ⊎ (answer ≡ status.OutOfMemory)
+CompletesGenerated (Tape generated) answer = (answer ≡ status.Ok) ⊎ (answer ≡ status.OutOfMemory)
 
 -- the head of the capture file is in order, where its bytes are told
 abbrev pub HasHead : Option (List ℕ) → Type 0

@@ -122,6 +122,23 @@ fn a_word_that_does_not_fit_is_named(rt: HostRuntime) -> Result<(), Fail> {
 }
 
 #[test]
+fn a_generated_file_is_written(rt: HostRuntime) -> Result<(), Fail> {
+    let (status, out) = trial_of(rt.alloc(), "tape 1 1", "", [0, 0, 0])?;
+    assert_eq!(rt; status, TrialStatus::Ok);
+    assert!(rt; out.written().starts_with(b"GSTAPE01\xf0\0\x05\0T"));
+    assert!(rt; out.written().ends_with(b"E"));
+    Ok(())
+}
+
+#[test]
+fn a_capture_file_without_ticks_is_read(rt: HostRuntime) -> Result<(), Fail> {
+    let words = "script brief tape schedule";
+    let empty = b"GSTAPE01\0\0\x05\0E";
+    assert!(rt; answers(rt.alloc(), words, empty, "", TrialStatus::Ok, "ok\n")?);
+    Ok(())
+}
+
+#[test]
 fn a_generated_run_is_made(rt: HostRuntime) -> Result<(), Fail> {
     let (status, out) = trial_of(rt.alloc(), "make 1 1", "", [0, 0, 0])?;
     assert_eq!(rt; status, TrialStatus::Ok);

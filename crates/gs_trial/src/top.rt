@@ -5,7 +5,7 @@ ghost use Rattle.std.specs.Io.KnownBytes.{IsAtEnd};
 ghost use Rattle.gs_bytes.specs.Outside.{Rose, SetsFlag};
 ghost use Rattle.gs_command.specs.Words.{command_of, first_misfit};
 ghost use Rattle.gs_command.specs.declared.command.Detail as spec;
-ghost use Rattle.gs_trial.specs.Trial.{Answers, CompletesIfTold, HasHead, IsGenerating, answer_of};
+ghost use Rattle.gs_trial.specs.Trial.{Answers, CompletesGenerated, CompletesIfTold, HasHead, IsGenerating, answer_of};
 
 use crate::generating::{make, write_tape};
 use crate::script::run_script;
@@ -48,6 +48,8 @@ pub fn trial_main<S: Source, T: Source, K: Sink>(
     ensures complete { (detail : spec.Detail) → command_of (map string_bytes words.now) ≡ Some (TrialCommand.Script detail)
         → (Rose (S.faults tape.old) (S.faults tape.new) → ⊥) → (Rose (T.faults schedule.old) (T.faults schedule.new) → ⊥)
         → (Rose (K.faults out.old) (K.faults out.new) → ⊥) → CompletesIfTold (S.left tape.old) (T.left schedule.old) result }
+    ensures complete_generated { (command : TrialCommand) → command_of (map string_bytes words.now) ≡ Some command
+        → (Rose (K.faults out.old) (K.faults out.new) → ⊥) → CompletesGenerated command result }
 
     // The causes of its answers; the schedule is read behind the capture file's head.
     ensures tape_fault { result ≡ TrialStatus.TapeFault → Rose (S.faults tape.old) (S.faults tape.new) }

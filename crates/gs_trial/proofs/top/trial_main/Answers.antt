@@ -1,9 +1,9 @@
 use Rattle.std.proofs.Common.{map, subst, sym, ◌∙◌}
 use Rattle.std.specs.Prelude.{string_bytes}
-use Rattle.gs_command.specs.declared.command.TrialCommand.TheVariants.{Make, Tape}
-use Rattle.gs_trial.specs.Trial.{CompletesIfTold}
+use Rattle.gs_command.specs.declared.command.TrialCommand.TheVariants.{Make, Script, Tape}
+use Rattle.gs_trial.specs.Trial.{CompletesGenerated, CompletesIfTold}
 use Rattle.gs_trial.proofs.Commands.{command_few}
-use Rattle.gs_trial.proofs.Completing.{completes}
+use Rattle.gs_trial.proofs.Completing.{completes, completes_make, completes_tape, of_command}
 use Rattle.gs_trial.proofs.Heads.{never, never_written, of_answer}
 use Rattle.gs_trial.proofs.top.trial_main.Goals as goal
 
@@ -33,3 +33,26 @@ returns-in-Ok-Make-clause-head_first g c = λ is. never c.make.result _ c.make.e
 
 pub returns-in-Ok-Tape-clause-head_first : goal.returns-in-Ok-Tape-clause-head_first
 returns-in-Ok-Tape-clause-head_first g c = λ is. never_written c.write_tape.result _ c.write_tape.ensures.cause (sym c.status_of-in-Ok-Tape.ensures ∙ is)
+
+pub returns-in-Ok-Script-clause-complete_generated : goal.returns-in-Ok-Script-clause-complete_generated
+returns-in-Ok-Script-clause-complete_generated g c = λ command is no_write.
+    let read = rw c.in-Ok-Script.field-0-is at c.in-Ok-Script.ensures in
+    of_command _ (Script c.in-Ok-Script.detail) command _ read.1 is tt
+
+pub returns-in-Ok-Make-clause-complete_generated : goal.returns-in-Ok-Make-clause-complete_generated
+returns-in-Ok-Make-clause-complete_generated g c = λ command is no_write.
+    let made = c.make.ensures in
+    let read = rw c.in-Ok-Make.field-0-is at c.in-Ok-Make.ensures in
+    let generated = c.in-Ok-Make.generated in
+    of_command _ (Make generated) command _ read.1 is
+    (subst (CompletesGenerated (Make generated)) (sym c.status_of-in-Ok-Make.ensures)
+    (completes_make generated.number generated.ticks _ _ c.make.result _ _ made.answers made.cause made.not_tape made.not_schedule made.write_faults no_write))
+
+pub returns-in-Ok-Tape-clause-complete_generated : goal.returns-in-Ok-Tape-clause-complete_generated
+returns-in-Ok-Tape-clause-complete_generated g c = λ command is no_write.
+    let wrote = c.write_tape.ensures in
+    let read = rw c.in-Ok-Tape.field-0-is at c.in-Ok-Tape.ensures in
+    let generated = c.in-Ok-Tape.generated in
+    of_command _ (Tape generated) command _ read.1 is
+    (subst (CompletesGenerated (Tape generated)) (sym c.status_of-in-Ok-Tape.ensures)
+    (completes_tape c.write_tape.result _ _ wrote.cause wrote.write_faults no_write))
