@@ -1,4 +1,4 @@
--- What was put into an outbox.
+-- Cited by private contracts alone: what was put into an outbox.
 use Rattle.std.specs.Prelude.{ℕ, List, [], ◌∷◌}
 use Rattle.std.specs.List.{flat_map}
 use Rattle.gs_bytes.specs.declared.link.LinkEntry.{LinkEntry}

@@ -1,4 +1,4 @@
--- What a host's end counts of its history.
+-- Cited by private contracts alone: what a host's end counts of its history.
 use Rattle.std.specs.Prelude.{ℕ, ◌≡◌, Bool, false, List}
 use Rattle.gs_refs.specs.declared.entry.Entry.{Entry}
 use Rattle.gs_refs.specs.History.{frames, last_tick}

@@ -1,4 +1,4 @@
--- The candidates of a history: its newest valid frames.
+-- Cited by private contracts alone: the candidates of a history, its newest valid frames.
 use Rattle.std.specs.Prelude.{ℕ, ◌≡◌, ◌-◌, ◌<◌, ◌≤◌, Bool, false, nat_le, List, [], ◌∷◌, Option, Some, None}
 use Rattle.circular_buffer.specs.Buffer.{last_item}
 use Rattle.gs_tape.specs.Tick.{Tick}

@@ -1,4 +1,4 @@
--- What a session's references keep beside its history.
+-- Cited by private contracts alone: what a session's references keep beside its history.
 use Rattle.std.specs.Prelude.{ℕ, ◌≡◌, ◌+◌, ◌-◌, ◌≤◌, Bool, List, Option, Some, None, is_some, if◌then◌else◌}
 use Rattle.gs_tape.specs.Tick.{Tick}
 use Rattle.gs_refs.specs.declared.entry.Entry.{Entry}

@@ -1,4 +1,4 @@
--- Whether messages can be given, by the events that were told.
+-- Cited by private contracts alone: whether messages can be given, by the events that were told.
 use Rattle.std.specs.Prelude.{Bool, true, false, List, [], ◌∷◌}
 use Rattle.gs_enet.specs.declared.event.PeerEvent.{PeerEvent}
 use Rattle.gs_enet.specs.declared.event.PeerEvent.TheVariants as event
