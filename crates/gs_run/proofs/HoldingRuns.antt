@@ -25,13 +25,15 @@ use Rattle.gs_run.specs.Totals.{parts_of, total_of, totals_from}
 use Rattle.gs_run.specs.Line.{HasStep}
 use Rattle.gs_run.specs.Run.{Run, IsStep}
 use Rattle.gs_run.specs.Generated.{generated_steps}
-use Rattle.gs_run.specs.RunLaws.{IsCapture, IsPairedPart, HandsCaptured, HandsReferences, PlaysCaptured, TellsInOrder}
+use Rattle.gs_run.specs.RunLaws.{IsCapture, IsPairedPart, HandsCaptured, HandsReferences}
+use Rattle.gs_run.specs.RunLaws.{CompletesFrames, PlaysCaptured, TellsInOrder}
 use Rattle.gs_run.specs.ReportLaws.{session_of, lines_of, over_parts, is_hand, is_ask, is_play, is_input}
 use Rattle.gs_run.specs.UserEvents.{GiveEvents, IsProper, TellUsers, RunsTellUsers}
 use Rattle.gs_run.specs.WholeRun.{ending, IsDoneBy, PartHolds, EachPartHolds, HaveOnePart, is_entry, is_closed, closed_report, given_by, ReportsAre, LinesHold}
 use Rattle.gs_run.specs.WholeRun.{TellsAll, TellAllOnceClosed, RunsTellAllOnceClosed, StateHolds, RunHolds, RunsHaveDeeds, RunsOfStepsHaveDeeds}
 use Rattle.gs_run.specs.WholeRun.{IsCaptureUnlessFaulty, RunsHold, RunsOfStepsHold, RunsOverBytesHold, GeneratedRunsHold}
-use Rattle.gs_run.proofs.Runs.{runs_are_paired, runs_hand_captured_units, runs_hand_references, runs_play_captured_units, runs_tell_in_order}
+use Rattle.gs_run.proofs.Runs.{runs_are_paired, runs_hand_captured_units, runs_hand_references, runs_complete_frames}
+use Rattle.gs_run.proofs.Runs.{runs_play_captured_units, runs_tell_in_order}
 use Rattle.gs_run.proofs.PartLines.{Tells}
 use Rattle.gs_run.proofs.StreamLines.{tells_hands, tells_asks, tells_plays}
 use Rattle.gs_run.proofs.InputLines.{tells_inputs}
@@ -71,6 +73,9 @@ Second ticks part = First ticks part × HandsReferences ticks part
 abbrev Third : List Tick → Part → Type 0
 Third ticks part = Second ticks part × PlaysCaptured ticks part
 
+abbrev Fourth : List Tick → Part → Type 0
+Fourth ticks part = Third ticks part × CompletesFrames ticks part
+
 parts_hold : PlayedUnitsWereSent → (file : CaptureFile) (deeds : List Deed) → IsCapture file → EachPartHolds file (ran file deeds start).state
 parts_hold were_sent file deeds capture =
     let ticks = file.ticks in
@@ -81,9 +86,16 @@ parts_hold were_sent file deeds capture =
     first (runs_hand_references file deeds capture) in
     let third = joined_parts (Second ticks) (PlaysCaptured ticks) (Third ticks) sessions (λ part p q. (p, q))
     second (runs_play_captured_units were_sent file deeds capture) in
-    joined_parts (Third ticks) (TellsInOrder ticks) (PartHolds ticks) sessions
-    (λ part p q. record { paired = p.0.0.0; captured = p.0.0.1; references = p.0.1; played = p.1; told = q })
-    third (runs_tell_in_order file deeds capture)
+    let fourth = joined_parts (Third ticks) (CompletesFrames ticks) (Fourth ticks) sessions (λ part p q. (p, q))
+    third (runs_complete_frames file deeds capture) in
+    joined_parts (Fourth ticks) (TellsInOrder ticks) (PartHolds ticks) sessions (λ part p q. record {
+      paired = p.0.0.0.0;
+      captured = p.0.0.0.1;
+      references = p.0.0.1;
+      complete = p.1;
+      played = p.0.1;
+      told = q;
+    }) fourth (runs_tell_in_order file deeds capture)
 
 -- ---- the lines
 

@@ -1,4 +1,4 @@
--- A schedule has one run at most over a capture file.
+-- A schedule has one run at most over a capture file, and so have steps.
 use Rattle.std.proofs.Common.{◌≡◌, ◌+◌, ℕ, List, [], ◌∷◌, Option, Some, None, Result, Ok, Err, refl, sym, ap, subst, ◌∙◌}
 use Rattle.gs_tape.specs.Reading.{Fault}
 use Rattle.gs_schedule.specs.declared.step.Step.{Step}
@@ -12,8 +12,8 @@ use Rattle.gs_run.specs.Pump.{Pumping, moved}
 use Rattle.gs_run.specs.Refusal.{Refusal}
 use Rattle.gs_run.specs.Done.{done, Ran, ran}
 use Rattle.gs_run.specs.Line.{HasStep, pumping_from, pump_deed, GoesOn, ArePumpDeeds, AreDeeds}
-use Rattle.gs_run.specs.Run.{Run, behind, RunsOn, RunsStep, RunsFrom, RunsUnless}
-use Rattle.gs_run.specs.RunLaws.{SchedulesHaveOneRun}
+use Rattle.gs_run.specs.Run.{IsStep, Run, behind, RunsOn, RunsStep, RunsFrom, RunsUnless}
+use Rattle.gs_run.specs.RunLaws.{SchedulesHaveOneRun, StepsHaveOneRun}
 
 -- ---- a pump
 
@@ -89,25 +89,33 @@ step_one file n (Some s) state R x y (ds, are, on) (es, are', on') one =
     on_one n (ran file ds state).refused (ran file ds state) R x y on
     (subst (λ (l : List Deed). RunsOn n (ran file l state).refused (ran file l state) R y) same on') one
 
+-- where each line has one step at most, the lines have one run
+from_one : {A : Type 0} (Has : ℕ → A → Option Step → Type 0) → ((n : ℕ) (line : A) (o p : Option Step) → Has n line o → Has n line p → o ≡ p)
+    → (file : CaptureFile) (n : ℕ) (lines : List A) (state : State) (x y : Run)
+    → RunsFrom Has file n lines state x → RunsFrom Has file n lines state y → x ≡ y
+from_one Has one file n [] state x y a b = a ∙ sym b
+from_one Has one file n (line ∷ lines) state x y (o, has, runs) (p, has', runs') =
+    let same : p ≡ o = one n line p o has' has in
+    step_one file n o state (RunsFrom Has file (n + 1) lines) x y runs
+    (subst (λ (q : Option Step). RunsStep file n q state (RunsFrom Has file (n + 1) lines) y) same runs')
+    (λ s q r. from_one Has one file (n + 1) lines s q r)
+
+unless_one : {A : Type 0} (Has : ℕ → A → Option Step → Type 0) → ((n : ℕ) (line : A) (o p : Option Step) → Has n line o → Has n line p → o ≡ p)
+    → (o : Option Fault) (file : CaptureFile) (lines : List A) (x y : Run)
+    → RunsUnless o (RunsFrom Has file 1 lines start x) x → RunsUnless o (RunsFrom Has file 1 lines start y) y → x ≡ y
+unless_one Has one (Some fault) file lines x y a b = a ∙ sym b
+unless_one Has one None file lines x y a b = from_one Has one file 1 lines start x y a b
+
+-- ---- schedules, and steps
+
 has_one : (n : ℕ) (line : List ℕ) (o p : Option Step) → HasStep n line o → HasStep n line p → o ≡ p
 has_one n line None None a b = refl
 has_one n line None (Some s) a b = absurd (a s b)
 has_one n line (Some s) None a b = absurd (b s a)
 has_one n line (Some s) (Some t) a b = ap (λ (x : Step). Some x) (one_step line s t a.spells b.spells)
 
-from_one : (file : CaptureFile) (n : ℕ) (lines : List (List ℕ)) (state : State) (x y : Run)
-    → RunsFrom HasStep file n lines state x → RunsFrom HasStep file n lines state y → x ≡ y
-from_one file n [] state x y a b = a ∙ sym b
-from_one file n (line ∷ lines) state x y (o, has, runs) (p, has', runs') =
-    let same : p ≡ o = has_one n line p o has' has in
-    step_one file n o state (RunsFrom HasStep file (n + 1) lines) x y runs
-    (subst (λ (q : Option Step). RunsStep file n q state (RunsFrom HasStep file (n + 1) lines) y) same runs')
-    (λ s q r. from_one file (n + 1) lines s q r)
-
-unless_one : (o : Option Fault) (file : CaptureFile) (lines : List (List ℕ)) (x y : Run) → RunsUnless o (RunsFrom HasStep file 1 lines start x) x
-    → RunsUnless o (RunsFrom HasStep file 1 lines start y) y → x ≡ y
-unless_one (Some fault) file lines x y a b = a ∙ sym b
-unless_one None file lines x y a b = from_one file 1 lines start x y a b
-
 pub schedules_have_one_run : SchedulesHaveOneRun
-schedules_have_one_run file lines x y a b = unless_one file.head file lines x y a b
+schedules_have_one_run file lines x y a b = unless_one HasStep has_one file.head file lines x y a b
+
+pub steps_have_one_run : StepsHaveOneRun
+steps_have_one_run file steps x y a b = unless_one IsStep (λ n step o p has has'. has ∙ sym has') file.head file steps x y a b

@@ -1,17 +1,24 @@
 -- Every deed of a run keeps every part of every session, and what follows from it.
 use Rattle.std.proofs.Common.{◌≡◌, ◌+◌, ◌-◌, ℕ, zero, suc, Bool, true, false, not, ◌&&◌, List, [], ◌∷◌, ◌++◌, length, Option, Some, None, refl, sym, ap, subst}
-use Rattle.std.proofs.Common.{◌∙◌, arith}
+use Rattle.std.proofs.Common.{◌≤◌, ◌∙◌, arith}
 use Rattle.std.specs.Prelude.{slice_get, nat_lt}
-use Rattle.std.specs.List.{AllByRecursion}
+use Rattle.std.specs.List.{AllByRecursion, Contains}
 use Rattle.std.specs.Option.{IfSome}
 use Rattle.std.proofs.lemmas.Bool.{and_parts, ltb-true, false≢true}
 use Rattle.std.proofs.lemmas.List.{append_assoc}
 use Rattle.gs_bytes.specs.Prefix.{IsPrefixOf}
 use Rattle.gs_tape.specs.Tick.{Tick}
-use Rattle.gs_refs.specs.History.{frames}
+use Rattle.gs_refs.specs.History.{frames, frame_kind}
+use Rattle.gs_frames.specs.Client.{Arrival}
+use Rattle.gs_frames.specs.Received.{taken}
+use Rattle.gs_frames.specs.Complete.{IsComplete}
+use Rattle.gs_frames.specs.Settled.{settled}
+use Rattle.gs_frames.specs.Handed.{Handed, settled_at_resets, is_handed, handed}
+use Rattle.gs_frames.specs.HandedLaws.{handed_below}
 use Rattle.gs_frames.specs.declared.range.Range.{Range}
 use Rattle.gs_frames.specs.Asks.{asks}
 use Rattle.gs_stream.proofs.HandedSent.{handed_were_sent}
+use Rattle.gs_stream.proofs.CameWhole.{came_complete, came_handed}
 use Rattle.gs_pair.proofs.Joined.{references_were_handed}
 use Rattle.gs_audio.specs.PlayedLaws.{PlayedUnitsWereSent}
 use Rattle.gs_audio.proofs.PlayedRise.{played-rise}
@@ -32,6 +39,7 @@ use Rattle.gs_run.specs.Refusal.{Refusal, is_client_open, has_made_most, is_allo
 use Rattle.gs_run.specs.Done.{done_in, settled_in, after_in, all_timed, after, unless_refused, ran_on, ran}
 use Rattle.gs_run.specs.Totals.{parts_of}
 use Rattle.gs_run.specs.RunLaws.{IsCapture, OfEachPart, IsPairedPart, RunsArePaired, HandsCaptured, RunsHandCapturedUnits, HandsReferences, RunsHandReferences}
+use Rattle.gs_run.specs.RunLaws.{sent_frame, handing_of, CompletesFrames, RunsCompleteFrames}
 use Rattle.gs_run.specs.RunLaws.{PlaysCaptured, RunsPlayCapturedUnits, TellsInOrder, RunsTellInOrder}
 use Rattle.gs_run.proofs.TwoSides.{in_order_from}
 use Rattle.gs_run.proofs.Heard.{IsFitting}
@@ -198,6 +206,34 @@ runs_hand_captured_units = of_kept HandsCaptured (λ ticks part k. handed_were_s
 pub runs_hand_references : RunsHandReferences
 runs_hand_references = of_kept HandsReferences (λ ticks part k.
     references_were_handed part.settings ticks part.history part.came k.window k.history (paired ticks part k).paired)
+
+-- an IDR frame is never barred
+idr_passes : (resets : List ℕ) (below : List Handed) (f kind : ℕ) → kind ≡ 2 → is_handed resets below f kind ≡ true
+idr_passes resets below f kind idr = ap (is_handed resets below f) idr
+
+of_all : {all parts : List Arrival} → all ≡ parts → (Holds : List Arrival → Type 0) → Holds parts → Holds all
+of_all is Holds holds = subst Holds (sym is) holds
+
+-- as the laws of what came of a history say, at what came in all
+completes : (ticks : List Tick) (part : Part) → IsKeptPart ticks part → CompletesFrames ticks part
+completes ticks part k =
+    let c = part.settings in
+    let h = part.history in
+    record {
+      complete = λ before after f is whole. of_all is (λ (came : List Arrival). IsComplete c (taken c came) f (sent_frame ticks h f))
+          (came_complete c ticks h before after f k.history whole);
+      handed = λ before after f is whole is_settled passes. of_all is (λ (came : List Arrival). Contains (handed c came) (handing_of ticks h f))
+          (came_handed c ticks h before after f k.history whole
+          (subst (λ (came : List Arrival). f ≤ settled c (taken c came)) is is_settled)
+          (subst (λ (came : List Arrival). is_handed (settled_at_resets c came) (handed_below c came f) f (frame_kind h f) ≡ true) is passes));
+      idr = λ before after f is whole is_settled is_idr. of_all is (λ (came : List Arrival). Contains (handed c came) (handing_of ticks h f))
+          (came_handed c ticks h before after f k.history whole
+          (subst (λ (came : List Arrival). f ≤ settled c (taken c came)) is is_settled)
+          (idr_passes (settled_at_resets c (after ++ before)) (handed_below c (after ++ before) f) f (frame_kind h f) is_idr));
+    }
+
+pub runs_complete_frames : RunsCompleteFrames
+runs_complete_frames = of_kept CompletesFrames completes
 
 -- by the law of what is played of a sender's datagrams
 pub runs_play_captured_units : PlayedUnitsWereSent → RunsPlayCapturedUnits

@@ -4,13 +4,15 @@ use Rattle.gs_rtp.specs.Limits.{least_packet, most_packet, most_percentage, most
 use Rattle.gs_frames.specs.Client.{ClientSettings, least_window, most_window}
 use Rattle.gs_enet.specs.Record.{PeerRecord, connecting, accepting}
 use Rattle.gs_enet.specs.Sides.{new_side}
+use Rattle.gs_run.specs.declared.limits.TheConstants.{MOST_SESSIONS}
 use Rattle.gs_run.specs.CaptureFile.{CaptureFile}
 use Rattle.gs_run.specs.Session.{Part, State}
 use Rattle.gs_run.specs.Connection.{both_written_out, settled}
 use Rattle.gs_run.specs.Hearing.{up_taken, down_taken}
 
+-- how many sessions a run may have
 abbrev pub most_sessions : ℕ
-most_sessions = 8
+most_sessions = MOST_SESSIONS
 
 -- the numbers of a session are within their limits
 abbrev pub are_settings : ℕ → ℕ → ℕ → ℕ → Bool

@@ -6,6 +6,7 @@ use Rattle.gs_frames.specs.Client.{Datagram}
 use Rattle.gs_frames.specs.Asks.{newly_asked}
 use Rattle.gs_enet.specs.Steps.{is_open, is_full}
 use Rattle.gs_store.specs.Named.{is_nameable}
+use Rattle.gs_run.specs.declared.limits.TheConstants.{MOST_MADE, MOST_MOMENT}
 use Rattle.gs_run.specs.CaptureFile.{CaptureFile}
 use Rattle.gs_run.specs.Session.{Part, Session, State, video_of, audio_of, made_on, session_numbered}
 use Rattle.gs_client_core.specs.Owed.{request_channel}
@@ -24,14 +25,14 @@ pub data Refusal : Type 0 where
 
 -- how many messages and asks a channel may have
 abbrev pub most_made : ℕ
-most_made = 30000
+most_made = MOST_MADE
 
 abbrev pub has_made_most : ℕ → Part → Bool
 has_made_most channel part = nat_le most_made (made_on channel part)
 
 -- the greatest moment in ms
 abbrev pub most_moment : ℕ
-most_moment = 4000000000
+most_moment = MOST_MOMENT
 
 -- ---- in a session
 

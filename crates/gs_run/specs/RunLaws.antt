@@ -1,24 +1,32 @@
 -- What holds of every part of every session, behind any deeds of a run.
-use Rattle.std.specs.Prelude.{ℕ, ◌≡◌, ◌⊎◌, ◌≤◌, false, List}
+use Rattle.std.specs.Prelude.{ℕ, ◌≡◌, ◌⊎◌, ◌≤◌, true, false, List, ◌++◌}
 use Rattle.std.specs.List.{All, AllByRecursion, Contains}
 use Rattle.gs_rtp.specs.Stream.{StreamSettings}
 use Rattle.gs_tape.specs.Tick.{Tick}
 use Rattle.gs_tape.specs.Limits.{HoldsBytes, AreWithinLimits, most_audio}
 use Rattle.gs_refs.specs.declared.entry.Entry.{Entry}
-use Rattle.gs_refs.specs.History.{has_ended}
-use Rattle.gs_frames.specs.Client.{HasWindow}
+use Rattle.gs_refs.specs.History.{frame_kind, has_ended}
+use Rattle.gs_frames.specs.Client.{Arrival, HasWindow}
+use Rattle.gs_frames.specs.Image.{Frame}
+use Rattle.gs_frames.specs.Received.{taken}
+use Rattle.gs_frames.specs.Complete.{IsComplete}
+use Rattle.gs_frames.specs.Settled.{settled}
+use Rattle.gs_frames.specs.Handed.{Handed, settled_at_resets, is_handed}
+use Rattle.gs_frames.specs.HandedLaws.{handed_below}
+use Rattle.gs_stream.specs.Video.{unit_of}
 use Rattle.gs_stream.specs.Audio.{audio_units, audio_stream}
-use Rattle.gs_stream.specs.HandedLaws.{IsHostHistory, IsSentFrame}
+use Rattle.gs_stream.specs.HandedLaws.{IsHostHistory, IsSentFrame, CameWhole}
 use Rattle.gs_stream.specs.Paired.{IsPaired}
 use Rattle.gs_pair.specs.References.{ReferencesHeldSince, handed_frames, reset_cuts}
 use Rattle.gs_enet.specs.Laws.{AreInOrder}
 use Rattle.gs_audio.specs.PlayedLaws.{IsUnitOf, HaveRisingNumbers}
+use Rattle.gs_schedule.specs.declared.step.Step.{Step}
 use Rattle.gs_run.specs.CaptureFile.{CaptureFile}
 use Rattle.gs_run.specs.Session.{Part, start, handed_of, played_of}
 use Rattle.gs_run.specs.Deed.{Deed}
 use Rattle.gs_run.specs.Done.{ran}
 use Rattle.gs_run.specs.Totals.{parts_of}
-use Rattle.gs_run.specs.Run.{Run, IsRun}
+use Rattle.gs_run.specs.Run.{Run, IsRun, IsRunOfSteps}
 
 -- a file that a run can be over: its ticks are within the limits, its audio units have a known duration
 pub record IsCapture (file : CaptureFile) : Type 0 where
@@ -50,6 +58,13 @@ pub record IsPairedPart (ticks : List Tick) (part : Part) : Type 0 where
 abbrev pub RunsArePaired : Type 0
 RunsArePaired = OfEachPart IsPairedPart
 
+-- frame f of a history with its kind and its captured unit, and as it is handed
+abbrev pub sent_frame : List Tick → List Entry → ℕ → Frame
+sent_frame ticks h f = record { kind = frame_kind h f; unit = unit_of ticks h f }
+
+abbrev pub handing_of : List Tick → List Entry → ℕ → Handed
+handing_of ticks h f = record { frame = f; kind = frame_kind h f; unit = unit_of ticks h f }
+
 -- each frame that is handed was sent, and is byte for byte its captured unit
 abbrev pub HandsCaptured : List Tick → Part → Type 0
 HandsCaptured ticks part = All (IsSentFrame ticks part.history) (handed_of part)
@@ -64,6 +79,28 @@ HandsReferences ticks part =
 
 abbrev pub RunsHandReferences : Type 0
 RunsHandReferences = OfEachPart HandsReferences
+
+-- Which frames a client is sure to have. Of what came by some time enough was of a frame that was sent, and nothing by
+-- which it was left (`CameWhole`). Then the frame is complete, whatever came behind, and holds its captured unit. Once
+-- it is settled it is handed, where it isn't barred and is a re-entry frame or follows a handed one; an IDR frame is
+-- handed always.
+pub record CompletesFrames (ticks : List Tick) (part : Part) : Type 0 where
+  pub complete : (before after : List Arrival) (f : ℕ)
+      → part.came ≡ after ++ before → CameWhole part.settings ticks part.history before f
+      → IsComplete part.settings (taken part.settings part.came) f (sent_frame ticks part.history f)
+  pub handed : (before after : List Arrival) (f : ℕ)
+      → part.came ≡ after ++ before → CameWhole part.settings ticks part.history before f
+      → f ≤ settled part.settings (taken part.settings part.came)
+      → is_handed (settled_at_resets part.settings part.came) (handed_below part.settings part.came f) f
+      (frame_kind part.history f) ≡ true
+      → Contains (handed_of part) (handing_of ticks part.history f)
+  pub idr : (before after : List Arrival) (f : ℕ)
+      → part.came ≡ after ++ before → CameWhole part.settings ticks part.history before f
+      → f ≤ settled part.settings (taken part.settings part.came) → frame_kind part.history f ≡ 2
+      → Contains (handed_of part) (handing_of ticks part.history f)
+
+abbrev pub RunsCompleteFrames : Type 0
+RunsCompleteFrames = OfEachPart CompletesFrames
 
 -- Each audio unit that is played is, byte for byte, the captured one of its number, of all that the history put, and
 -- the numbers rise.
@@ -87,6 +124,12 @@ abbrev pub SchedulesHaveOneRun : Type 0
 SchedulesHaveOneRun =
     (file : CaptureFile) (lines : List (List ℕ)) (first second : Run)
     → IsRun file lines first → IsRun file lines second → first ≡ second
+
+-- so have steps
+abbrev pub StepsHaveOneRun : Type 0
+StepsHaveOneRun =
+    (file : CaptureFile) (steps : List Step) (first second : Run)
+    → IsRunOfSteps file steps first → IsRunOfSteps file steps second → first ≡ second
 
 -- and it has one, whatever its lines and the file hold
 abbrev pub SchedulesHaveARun : Type 0

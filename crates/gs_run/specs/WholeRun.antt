@@ -23,7 +23,8 @@ use Rattle.gs_run.specs.Totals.{inputs_of, parts_of, totals_from}
 use Rattle.gs_run.specs.Run.{Run, IsRun, IsRunOfSteps}
 use Rattle.gs_run.specs.UserEvents.{GiveEvents, IsProper, IsProperStep, TellUsers}
 use Rattle.gs_run.specs.Generated.{IsGeneratedRun}
-use Rattle.gs_run.specs.RunLaws.{IsCapture, IsPairedPart, HandsCaptured, HandsReferences, PlaysCaptured, TellsInOrder}
+use Rattle.gs_run.specs.RunLaws.{IsCapture, IsPairedPart, HandsCaptured, HandsReferences}
+use Rattle.gs_run.specs.RunLaws.{CompletesFrames, PlaysCaptured, TellsInOrder}
 use Rattle.gs_run.specs.ReportLaws.{lines_of, is_hand, is_ask, is_play, is_input, input_report, over_parts, RunsReport}
 
 -- ---- which deeds a run did
@@ -44,12 +45,14 @@ pub record IsDoneBy (file : CaptureFile) (run : Run) (deeds : List Deed) : Type 
 
 -- What holds of a part. Its history is one that a host may have; each datagram that its client was given went out, and
 -- what its host took as invalid is a prefix of what its client asked for. Each frame that was handed is, byte for byte,
--- its captured unit, and the frame that it refers to was handed before it, behind the last reset. Each audio unit that
--- was played is the captured one. What the host was told on a channel is what the client gave there first, in order.
+-- its captured unit, and the frame that it refers to was handed before it, behind the last reset. Each frame of which
+-- enough came in time is complete. Each audio unit that was played is the captured one. What the host was told on a
+-- channel is what the client gave there first, in order.
 pub record PartHolds (ticks : List Tick) (part : Part) : Type 0 where
   pub paired : IsPairedPart ticks part
   pub captured : HandsCaptured ticks part
   pub references : HandsReferences ticks part
+  pub complete : CompletesFrames ticks part
   pub played : PlaysCaptured ticks part
   pub told : TellsInOrder ticks part
 

@@ -9,12 +9,14 @@ ghost use Rattle.gs_run.specs.ReportLaws.{
 };
 ghost use Rattle.gs_run.specs.RunLaws.{
   RunsArePaired,
+  RunsCompleteFrames,
   RunsHandCapturedUnits,
   RunsHandReferences,
   RunsPlayCapturedUnits,
   RunsTellInOrder,
   SchedulesHaveARun,
   SchedulesHaveOneRun,
+  StepsHaveOneRun,
 };
 ghost use Rattle.gs_run.specs.UserEvents.{RunsGiveEvents, RunsTellUsers};
 ghost use Rattle.gs_run.specs.WholeRun.{
@@ -51,6 +53,13 @@ pub fn runs_hand_captured_units()
 /// reset before it.
 pub fn runs_hand_references()
     ensures { RunsHandReferences }
+{}
+
+/// A law: whichever datagrams were lost and in whatever order the others came, a frame of whose blocks enough distinct
+/// datagrams came before any by which it is left is complete from then on and holds its captured unit. Once it is settled
+/// it is handed, where it isn't barred and is a re-entry frame or follows a handed one; an IDR frame always.
+pub fn runs_complete_frames()
+    ensures { RunsCompleteFrames }
 {}
 
 /// A law: each audio unit that a client played is, byte for byte, the captured unit of its number: that of this place
@@ -122,11 +131,12 @@ pub fn files_are_captures()
 
 /// Laws of every run, behind each of its deeds and at its end (`RunHolds`). Each session's history is one that a host may
 /// have, and is paired with what its client was given. Each frame that was handed is, byte for byte, its captured unit, and the
-/// frame that it refers to was handed before it, behind the last reset. Each audio unit that was played is the captured one.
-/// The lines that name a session are what its history has, what its client was handed, asked for and played, and what its host
-/// was told: on each channel what its client's user did there first, and all of it once a line says that the client closed.
-/// They hold of a run of lines, and of a run of steps whose events are such as lines have, over a capture; so of any lines
-/// over any bytes, and of the generated run. They rest on the laws that are called.
+/// frame that it refers to was handed before it, behind the last reset. Each frame of which enough came in time is complete,
+/// and is handed as the rules say. Each audio unit that was played is the captured one. The lines that name a session are what
+/// its history has, what its client was handed, asked for and played, and what its host was told: on each channel what its
+/// client's user did there first, and all of it once a line says that the client closed. They hold of a run of lines, and of a
+/// run of steps whose events are such as lines have, over a capture; so of any lines over any bytes, and of the generated run.
+/// They rest on the laws that are called.
 pub fn whole_runs_hold()
     ensures lines { RunsHold }
     ensures steps { RunsOfStepsHold }
@@ -137,10 +147,11 @@ pub fn whole_runs_hold()
     packet_is_read();
 }
 
-/// A law: a schedule has one run at most over a capture file: its lines decide each deed, what is reported and how
-/// the run ends.
+/// Laws: a schedule has one run at most over a capture file, and so have steps: they decide each deed, what is reported
+/// and how the run ends.
 pub fn schedules_have_one_run()
-    ensures { SchedulesHaveOneRun }
+    ensures lines { SchedulesHaveOneRun }
+    ensures steps { StepsHaveOneRun }
 {}
 
 /// A law: every schedule has a run over every capture file, whatever its lines and the file hold.

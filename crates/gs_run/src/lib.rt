@@ -10,10 +10,13 @@
 #![tactic(auto)]
 
 mod laws;
+mod limits;
 
 pub use laws::{
-    files_are_captures, pumps_advance, pumps_end, runs_are_paired, runs_give_events,
-    runs_hand_captured_units, runs_hand_references, runs_have_deeds, runs_play_captured_units,
-    runs_report_hosts, runs_report_streams, runs_tell_all_once_closed, runs_tell_in_order,
-    runs_tell_users, schedules_have_a_run, schedules_have_one_run, whole_runs_hold,
+    files_are_captures, pumps_advance, pumps_end, runs_are_paired, runs_complete_frames,
+    runs_give_events, runs_hand_captured_units, runs_hand_references, runs_have_deeds,
+    runs_play_captured_units, runs_report_hosts, runs_report_streams, runs_tell_all_once_closed,
+    runs_tell_in_order, runs_tell_users, schedules_have_a_run, schedules_have_one_run,
+    whole_runs_hold,
 };
+pub use limits::{MOST_MADE, MOST_MOMENT, MOST_SESSIONS};
