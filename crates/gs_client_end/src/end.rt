@@ -12,14 +12,12 @@ use gs_bytes::OutOfMemory;
 use gs_client_core::{Asker, Client};
 use gs_enet::PeerEvent;
 use gs_rtp::Settings;
+use gs_run::MOST_MADE;
 use gs_sides::ControlSide;
 use std::alloc::Global;
 
 /// The channel on which a client asks.
 pub(crate) const REQUEST_CHANNEL: u8 = 1;
-
-/// How many messages and asks a channel may have.
-const MOST_MADE: u64 = 30_000;
 
 /// A client of a session of a trial, and its side of the control connection.
 #[derive(Drop)]
