@@ -16,7 +16,8 @@ use Rattle.gs_enet.specs.declared.answer.Answer.{Answer}
 use Rattle.gs_enet.specs.Record.{PeerRecord, Unacknowledged, Order, channels, last_number}
 use Rattle.gs_enet.specs.Record.{heard, is_shut, happened, at_moment}
 use Rattle.gs_enet.specs.Receive.{leave_if}
-use Rattle.gs_enet.specs.Steps.{next_number, is_full, is_open, can_send, with_message, close_if, telling, wait_after, most_writes}
+use Rattle.gs_enet.specs.Steps.{next_number, is_full, is_open, can_send, with_message, close_if, telling, first_wait, longest_wait}
+use Rattle.gs_enet.specs.Steps.{wait_after, most_writes}
 use Rattle.gs_enet.specs.Steps.{has_waited, is_lost, due_again, timed_if, timed}
 use Rattle.gs_enet.specs.Write.{Answers, next_items, written_once, first_written, wrote_next}
 use Rattle.gs_enet.specs.World.{Written, sent_if, one_written}
@@ -108,7 +109,7 @@ giver_hears c now m acks st e r ws k over left =
 
 waits : (n : ℕ) → 1 ≤ wait_after n
 waits n = least (2 ^ (n - 1)) (pow_pos (n - 1)) where
-  least : (p : ℕ) → 1 ≤ p → 1 ≤ min 4000 (500 * p)
+  least : (p : ℕ) → 1 ≤ p → 1 ≤ min longest_wait (first_wait * p)
   least p le = omega (arith, le)
 
 not_waited : (now m : ℕ) (u : Unacknowledged) → now ≡ m → IsTimed m u → has_waited now u ≡ false

@@ -1,4 +1,4 @@
--- Which events are messages.
+-- Cited by private contracts alone: which events are messages.
 use Rattle.gs_enet.specs.declared.event.PeerEvent.{PeerEvent}
 use Rattle.gs_enet.specs.declared.event.PeerEvent.TheVariants as event
 

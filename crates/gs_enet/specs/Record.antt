@@ -1,4 +1,5 @@
--- What one side of a connection is. A channel's messages are numbered from 1, without wrap.
+-- What one side of a connection is. A channel's messages are numbered from 1, without wrap; the protocol's
+-- `reliableSequenceNumber` is that number modulo 2^16. Moments are in milliseconds (`serviceTime`).
 use Rattle.std.specs.Prelude.{ℕ, ◌-◌, ◌^◌, ◌==◌, Bool, true, false, if◌then◌else◌, List, [], ◌∷◌, ◌++◌, length, map}
 use Rattle.std.specs.Prelude.{max, Option, Some, None}
 use Rattle.std.specs.List.{filter}
@@ -10,7 +11,7 @@ use Rattle.gs_enet.specs.declared.event.PeerEvent.TheVariants as event
 use Rattle.gs_enet.specs.declared.state.PeerState.{PeerState}
 use Rattle.gs_enet.specs.declared.state.PeerState.TheVariants as state
 
--- how many channels carry messages
+-- how many channels carry messages (`channelCount`)
 abbrev pub channels : ℕ
 channels = CHANNELS
 
@@ -18,7 +19,7 @@ channels = CHANNELS
 abbrev pub control : ℕ
 control = CONTROL
 
--- the id by which no side is addressed
+-- the id by which no side is addressed (`ENET_PROTOCOL_MAXIMUM_PEER_ID`)
 abbrev pub nobody : ℕ
 nobody = NOBODY
 
@@ -26,7 +27,7 @@ nobody = NOBODY
 abbrev pub most_message : ℕ
 most_message = MOST_MESSAGE
 
--- the most bytes of a datagram that a side writes
+-- the most bytes of a datagram that a side writes (`mtu`)
 abbrev pub datagram_room : ℕ
 datagram_room = DATAGRAM_ROOM
 
@@ -51,7 +52,8 @@ pub record Order : Type 0 where
   pub channel : ℕ
   pub number : ℕ
 
--- a command that isn't acknowledged yet: how often and when it was written, and whether it is to be written
+-- a command that isn't acknowledged yet: how often it was written (`sendAttempts`), the moment of the last writing
+-- (`sentTime`), and whether it is to be written
 pub record Unacknowledged : Type 0 where
   pub order : Order
   pub writes : ℕ
@@ -65,13 +67,15 @@ pub record Given : Type 0 where
 
 pub record PeerRecord : Type 0 where
   pub state : PeerState
-  -- the id by which the other side addresses this one, and that by which this one addresses the other, once it is known
+  -- the id by which the other side addresses this one (`incomingPeerID`), and that by which this one addresses the
+  -- other (`outgoingPeerID`), once it is known
   pub own : ℕ
   pub other : Option ℕ
+  -- the number that both sides know the connection by (`connectID`)
   pub connect_id : ℕ
-  -- the data of the connect that a client sends; a host has none
+  -- the number that a client's connect carries (`data`); a host has none
   pub extra : Option ℕ
-  -- the greatest moment that it was given, in milliseconds
+  -- the greatest moment that it was told, in milliseconds (`serviceTime`)
   pub now : ℕ
   -- whether it has read a disconnect
   pub disconnected : Bool

@@ -1,4 +1,4 @@
--- The room that a peer has for what it reads.
+-- Cited by private contracts alone: the room that a peer has for the events and answers of what it reads.
 use Rattle.std.specs.Prelude.{ℕ, ◌≡◌, ◌≤◌, ◌<◌, ◌+◌, ◌^◌, slice_index_or, List, Option, Some, None}
 use Rattle.std.specs.VecDeque.{deque_len, deque_capacity}
 use Rattle.gs_enet_wire.specs.declared.command.Command.{Command}

@@ -4,7 +4,7 @@ use Rattle.std.specs.Prelude.{nat_lt, nat_le, min, List, [], ◌∷◌, ◌++◌
 use Rattle.std.specs.List.{list_any}
 use Rattle.gs_enet.specs.declared.event.PeerEvent.{PeerEvent}
 use Rattle.gs_enet.specs.declared.event.PeerEvent.TheVariants as event
-use Rattle.gs_enet.specs.declared.limits.TheConstants.{MOST_WRITES}
+use Rattle.gs_enet.specs.declared.limits.TheConstants.{FIRST_WAIT, LONGEST_WAIT, MOST_WRITES}
 use Rattle.gs_enet.specs.declared.state.PeerState.{PeerState}
 use Rattle.gs_enet.specs.declared.state.PeerState.TheVariants as state
 use Rattle.gs_enet.specs.Record.{PeerRecord, Message, Order, Unacknowledged, window_span, last_number, given_count}
@@ -17,8 +17,8 @@ use Rattle.gs_enet.specs.Receive.{leaving}
 abbrev pub next_number : PeerRecord → ℕ → ℕ
 next_number r channel = given_count r channel + 1
 
--- The window of a channel is full: a number of it that isn't acknowledged is 256 below the next. (No number is
--- further below.)
+-- The window of a channel is full: a number of it that isn't acknowledged is the window's span below the next. (No
+-- number is further below.)
 abbrev pub is_full : PeerRecord → ℕ → Bool
 is_full r channel =
     list_any
@@ -27,7 +27,7 @@ is_full r channel =
     r.unacknowledged
     || nat_le last_number (next_number r channel)
 
--- the control channel stands before channel 0
+-- the control channel, the last that a byte can name, stands before channel 0
 abbrev pub rank : ℕ → ℕ
 rank channel = (channel + 1) % 256
 
@@ -84,9 +84,16 @@ told_next r = telling r.waiting r
 
 -- ---- time
 
--- how long the n-th writing of a command waits for its acknowledgement: 500 ms, doubling to 4,000 ms
+-- milliseconds that the first writing of a command waits for its acknowledgement, and the most that any one waits
+abbrev pub first_wait : ℕ
+first_wait = FIRST_WAIT
+
+abbrev pub longest_wait : ℕ
+longest_wait = LONGEST_WAIT
+
+-- milliseconds that the n-th writing waits: each wait is twice the one before, up to the longest
 abbrev pub wait_after : ℕ → ℕ
-wait_after n = min 4000 (500 * 2 ^ (n - 1))
+wait_after n = min longest_wait (first_wait * 2 ^ (n - 1))
 
 -- the most writings of one command
 abbrev pub most_writes : ℕ

@@ -62,7 +62,7 @@ item_command r (Orders o) = order_command o.content o.channel o.number r
 
 -- ---- the next datagram
 
--- the bytes of a datagram's header
+-- the bytes of a datagram's header: `peerID`, and the sent time (`sentTime`)
 abbrev pub header_room : ℕ
 header_room = 4
 
@@ -116,7 +116,7 @@ wrote_next now r = having_written (length (next_items (at_moment now r))) (at_mo
 
 -- ---- datagrams
 
--- the id by which the other side is addressed: its low 12 bits, and 4095 while it isn't known
+-- the id by which the other side is addressed: its low 12 bits, and nobody's while it isn't known
 abbrev pub address : Option ℕ → ℕ
 address (Some other) = other % 4096
 address None = nobody

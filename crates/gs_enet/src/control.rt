@@ -18,8 +18,11 @@ pub enum ControlKind {
 #[derive(Clone, Copy)]
 pub struct Control {
     pub kind: ControlKind,
+    /// Its number on the control channel (`reliableSequenceNumber`).
     pub number: u16,
+    /// How often it was written (`sendAttempts`).
     pub writes: u8,
+    /// The moment of the last writing (`sentTime`), in milliseconds.
     pub written: u32,
     pub due: bool,
     ghost small: { number < 65536 },

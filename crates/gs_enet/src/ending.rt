@@ -12,8 +12,8 @@ use crate::holding::nothing_held;
 use crate::{Peer, PeerState};
 
 impl Peer {
-    /// Closes the connection once everything that was sent is acknowledged. Where it isn't up,
-    /// nothing happens.
+    /// Closes the connection: a DISCONNECT, with 0 as its `data`, is due once everything that was sent is
+    /// acknowledged. Where the connection isn't up, nothing happens.
     pub fn close(&mut self)
         ensures { (r : PeerRecord) → StandsFor self.old r → StandsFor self.new (closed r) }
     {

@@ -5,21 +5,26 @@ use gs_bytes::Text;
 /// What happened on a connection, in the order in which it did.
 #[derive(Debug, PartialEq, Eq, Drop)]
 pub enum PeerEvent {
-    /// The connection is up.
+    /// The connection is up (`ENET_EVENT_TYPE_CONNECT`).
     Connected,
-    /// A message came: its channel, its number on that channel from 1, and its bytes.
+    /// A message came.
     Message {
+        /// Its channel (`channelID`), below `CHANNELS`.
         channel: u8,
+        /// Its number on that channel, from 1 and without wrap (`reliableSequenceNumber` is that number
+        /// modulo 65,536).
         number: u64,
         bytes: Text,
     },
-    /// The other side acknowledged the disconnect of this one.
+    /// The other side acknowledged the DISCONNECT of this one.
     Closed,
-    /// The other side disconnected.
+    /// A DISCONNECT of the other side came.
     PeerClosed,
-    /// A command was sent 13 times and never acknowledged: its channel and its number there.
+    /// A command was written `MOST_WRITES` times and isn't acknowledged, which ends the connection.
     Lost {
+        /// Its channel (`channelID`): that of a message, or `CONTROL`.
         channel: u8,
+        /// Its number on that channel, from 1 and without wrap.
         number: u64,
     },
 }

@@ -1,24 +1,20 @@
 //! A message that isn't acknowledged yet.
 
-ghost use Rattle.std.specs.Prelude.{◌≡◌, ◌≤◌, ◌+◌, true, length, min, ◌*◌, ◌-◌, ◌^◌};
+ghost use Rattle.std.specs.Prelude.{◌≡◌, ◌≤◌, ◌+◌, true, length};
 ghost use Rattle.gs_enet.specs.declared.limits.TheConstants.{MOST_WRITES};
 ghost use Rattle.gs_enet.specs.Record.{most_message, datagram_room};
+ghost use Rattle.gs_enet.specs.Steps;
 
-use crate::limits::{DATAGRAM_ROOM, MOST_WRITES};
+use crate::limits::{DATAGRAM_ROOM, FIRST_WAIT, LONGEST_WAIT, MOST_WRITES};
 use gs_bytes::Text;
 use gs_enet_wire::write_reliable;
 
-/// How long the first writing of a command waits for its acknowledgement, and the longest wait, in
-/// milliseconds.
-const FIRST_WAIT: u32 = 500;
-
-const LONGEST_WAIT: u32 = 4000;
 /// The bytes of a message on the wire, without its data.
 const RELIABLE: usize = 6;
 
 /// How long the n-th writing of a command waits for its acknowledgement, in milliseconds.
 pub fn wait_after(writes: u8) -> u32
-    ensures { result ≡ min 4000 (500 * 2 ^ (writes - 1)) }
+    ensures { result ≡ Steps.wait_after writes }
 {
     match writes {
         0 | 1 => FIRST_WAIT,
@@ -32,7 +28,9 @@ pub fn wait_after(writes: u8) -> u32
 #[derive(Drop)]
 pub struct Held {
     pub bytes: Text,
+    /// How often it was written (`sendAttempts`).
     pub writes: u8,
+    /// The moment of the last writing (`sentTime`), in milliseconds.
     pub written: u32,
     pub due: bool,
     ghost short: { length bytes ≤ most_message },

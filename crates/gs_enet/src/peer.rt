@@ -18,14 +18,19 @@ use gs_enet_wire::{Command, Connect};
 use std::alloc::Global;
 use std::collections::VecDeque;
 
-/// One side of a connection. It reads and writes datagrams, and looks at no clock.
+/// One side of a connection. It reads and writes datagrams, and knows the moments that its caller says.
 #[derive(Drop)]
 pub struct Peer {
     pub(crate) state: PeerState,
+    /// The id by which the other side addresses this one (`incomingPeerID`).
     pub(crate) own: u16,
+    /// The id by which this side addresses the other one (`outgoingPeerID`), once it is known.
     pub(crate) other: Option<u16>,
+    /// The number that both sides know the connection by (`connectID`).
     pub(crate) connect_id: u32,
+    /// The number that a client's CONNECT carries (`data`); a host has none.
     pub(crate) extra: Option<u32>,
+    /// The greatest moment that was said (`serviceTime`), in milliseconds.
     pub(crate) moment: u32,
     pub(crate) disconnected: bool,
     pub(crate) last_control: u16,
@@ -48,8 +53,9 @@ impl Peer {
     ghost use Rattle.gs_enet.specs.Record.{connecting, accepting};
     ghost use Rattle.gs_enet.specs.Standing.{StandsFor};
 
-    /// The client's side: it asks for a connection with its own id, an id of the connection and the
-    /// data of the request.
+    /// The client's side: it asks for a connection by a CONNECT with its own id (`outgoingPeerID` there),
+    /// the connect id (`connectID`) and a number of the user's own (`data`). `now` is the moment in
+    /// milliseconds.
     pub fn connect(
         alloc: Global,
         own: u16,
@@ -77,7 +83,8 @@ impl Peer {
         })
     }
 
-    /// The host's side: it answers a request for a connection.
+    /// The host's side: it answers a CONNECT by a VERIFY_CONNECT with its own id (`outgoingPeerID` there)
+    /// and the connect id that came. `now` is the moment in milliseconds.
     pub fn accept(alloc: Global, own: u16, connect: &Connect, now: u32) -> Result<Peer, OutOfMemory>
         ensures { IfOk result (λ peer.
             StandsFor peer (accepting own connect.now.peer connect.now.connect_id now)) }

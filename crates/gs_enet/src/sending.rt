@@ -9,7 +9,8 @@ use crate::{Peer, PeerEvent, SendError};
 use gs_bytes::Text;
 
 impl Peer {
-    /// Gives a message to be sent on a channel, and answers its number there, from 1.
+    /// Gives a message to be sent on a channel (`channelID`), and answers its number there, from 1 and
+    /// without wrap. A datagram has that number modulo 65,536 (`reliableSequenceNumber`).
     pub fn send(&mut self, channel: u8, bytes: &[u8]) -> Result<u64, SendError>
         requires channel { channel < channels }
         requires some { 1 ≤ length bytes.now }

@@ -1,16 +1,18 @@
 //! The states of a connection.
 
-/// Where one side of a connection stands.
+/// Where one side of a connection stands. Behind a state stands the protocol's name of it.
 #[derive(Clone, Copy, Debug, PartialEq, Eq)]
 pub enum PeerState {
-    /// A client whose connect isn't answered yet.
+    /// A client whose CONNECT isn't answered yet (`ENET_PEER_STATE_CONNECTING`).
     Connecting,
-    /// A host whose answer to a connect isn't acknowledged yet.
+    /// A host whose VERIFY_CONNECT isn't acknowledged yet (`ENET_PEER_STATE_ACKNOWLEDGING_CONNECT`).
     Accepting,
+    /// The connection is up (`ENET_PEER_STATE_CONNECTED`).
     Connected,
-    /// The user closed the connection. It ends once the other side has everything.
+    /// The user closed the connection. It ends once the other side has everything
+    /// (`ENET_PEER_STATE_DISCONNECT_LATER`, and then `ENET_PEER_STATE_DISCONNECTING`).
     Closing,
-    /// The connection is over.
+    /// The connection is over (`ENET_PEER_STATE_DISCONNECTED`).
     Shut,
 }
 

@@ -2,12 +2,15 @@
 
 use gs_enet_wire::WireError;
 use std::alloc::AllocError;
+use thiserror::Error;
 
 /// Why a datagram could not be taken. The peer stays as it was.
-#[derive(Clone, Copy, Debug, PartialEq, Eq)]
+#[derive(Clone, Copy, Debug, PartialEq, Eq, Error)]
 pub enum TakeError {
-    /// The bytes are no datagram; the place of the first fault.
+    /// The bytes are no datagram; the place of the first fault, in bytes from the front.
+    #[error("no ENet datagram: at byte {0}")]
     BadDatagram(usize),
+    #[error("out of memory")]
     OutOfMemory,
 }
 

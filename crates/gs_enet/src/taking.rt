@@ -17,9 +17,9 @@ use std::collections::VecDeque;
 use std::mem::replace;
 
 impl Peer {
-    /// Reads a datagram that came at that moment. After an error the peer is as before.
+    /// Reads a datagram that came at that moment, in milliseconds. After an error the peer is as before.
     ///
-    /// `BadDatagram` has the place of the first fault, by the grammar of datagrams.
+    /// `BadDatagram` has the place of the first fault in bytes from the front, by the grammar of datagrams.
     pub fn take(&mut self, datagram: &[u8], now: u32) -> Result<(), TakeError>
         ensures taken { IfOk result (λ _. Takes datagram.now now self.old self.new) }
         ensures refused { OnErr result ((r : PeerRecord) → StandsFor self.old r → StandsFor self.new r) }

@@ -18,8 +18,10 @@ use crate::{Peer, PeerEvent, PeerState, holding};
 use std::collections::VecDeque;
 
 impl Peer {
-    /// Lets time pass. What was written and not acknowledged for its wait is due again; what was
-    /// written 13 times ends the connection, and an event tells that it is lost.
+    /// Lets time pass, up to that moment in milliseconds. A command that was written and not acknowledged
+    /// for its wait is due again: the first wait is `FIRST_WAIT`, and each further one twice the one before,
+    /// up to `LONGEST_WAIT`. One that was written `MOST_WRITES` times ends the connection, and an event
+    /// tells that it is lost.
     pub fn timer(&mut self, now: u32)
         ensures { (r : PeerRecord) → StandsFor self.old r → StandsFor self.new (timed now r) }
     {

@@ -23,8 +23,9 @@ use std::collections::VecDeque;
 const HEADER: usize = 4;
 
 impl Peer {
-    /// Writes the next datagram and answers its length; there is none where nothing is to be
-    /// written. The rest of `out` stays as it was.
+    /// Writes the next datagram and answers its length in bytes; there is none where nothing is to be
+    /// written. Its sent time (`sentTime`) is the moment in milliseconds modulo 65,536, and its id (`peerID`)
+    /// that of the other side, `NOBODY` while it isn't known. The rest of `out` stays as it was.
     pub fn next_out(&mut self, now: u32, out: &mut [u8]) -> Option<usize>
         requires { datagram_room ≤ length out.old }
         ensures size { IfSome result (λ size. size ≤ datagram_room) }
@@ -42,7 +43,7 @@ impl Peer {
         Some(place)
     }
 
-    /// The id by which the other side is addressed.
+    /// The id by which the other side is addressed: the low 12 bits of its id.
     fn address(&self) -> u16
         ensures { result ≡ address self.now.other }
     {

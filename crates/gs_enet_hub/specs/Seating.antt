@@ -12,7 +12,7 @@ pub record Seating : Type 0 where
   pub seats : List (Option Seat)
   pub peers : Slab Peer
 
--- a connection: the other side's address, the connect id that it chose, and the peer
+-- a connection: the other side's address, the connect id that it chose (`connectID`), and the peer
 pub record Member : Type 0 where
   pub from : Addr
   pub connect_id : ℕ

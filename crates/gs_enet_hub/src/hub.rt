@@ -18,7 +18,7 @@ use slab::Slab;
 use std::alloc::Global;
 use std::marker::Model;
 
-/// Up to 16 peers, each under a key from 0 to 15.
+/// Up to `MOST_PEERS` peers, each under a key from 0 on and below that.
 #[derive(Drop)]
 pub struct Hub {
     pub(crate) seats: Vec<Option<Seat>>,
@@ -51,16 +51,17 @@ impl Hub {
         })
     }
 
-    /// The key of the peer that a datagram from that address is for. Its caller hands the datagram on.
+    /// The key of the peer that a datagram from that address is for. Its caller hands the datagram on. `now`
+    /// is the moment in milliseconds at which a new peer begins.
     ///
-    /// A connect datagram, which is one to id 4095 whose first command is CONNECT, is for the connection
-    /// with that address and connect id. Where there is none, a peer is made, under the least key that isn't
-    /// live. Any other datagram is for the key that it is addressed to, where that is live and its other
-    /// side has that address.
+    /// A connect datagram, which is one to id `NOBODY` (`peerID`) whose first command is CONNECT, is for the
+    /// connection with that address and connect id (`connectID`). Where there is none, a peer is made, under
+    /// the least key that isn't live. Any other datagram is for the key that it is addressed to, where that is
+    /// live and its other side has that address.
     ///
-    /// After an error the connections are as before. `BadDatagram` has the place of the first fault, by the
-    /// grammar of datagrams. `NoPeer` says that the datagram asks for no connection and is for none, and
-    /// `HubFull` that it asks for a new one while 16 live.
+    /// After an error the connections are as before. `BadDatagram` has the place of the first fault in bytes
+    /// from the front, by the grammar of datagrams. `NoPeer` says that the datagram asks for no connection and
+    /// is for none, and `HubFull` that it asks for a new one while `MOST_PEERS` live.
     pub fn route(&mut self, from: Addr, datagram: &[u8], now: u32) -> Result<usize, RouteError>
         ensures routed { (d : Datagram) → Spells datagram.now d → Routes d from now self.old result self.new }
         ensures same { OnErr result (SameMembers self.old self.new) }

@@ -7,7 +7,8 @@ use crate::limits::MOST_PEERS;
 use gs_bytes::{Addr, OutOfMemory};
 use std::alloc::Global;
 
-/// Where a connection's peer stands among the peers, and the other side's address and connect id.
+/// Where a connection's peer stands among the peers, the other side's address, and the connect id
+/// (`connectID`).
 #[derive(Clone, Copy)]
 pub struct Seat {
     pub place: usize,
