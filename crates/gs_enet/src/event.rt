@@ -2,12 +2,13 @@
 
 use gs_bytes::Text;
 
-/// What happened on a connection, in the order in which it did.
+/// What happened on a connection, in the order in which it did. Behind an event stands the protocol's name of
+/// its kind.
 #[derive(Debug, PartialEq, Eq, Drop)]
 pub enum PeerEvent {
     /// The connection is up (`ENET_EVENT_TYPE_CONNECT`).
     Connected,
-    /// A message came.
+    /// A message came (`ENET_EVENT_TYPE_RECEIVE`).
     Message {
         /// Its channel (`channelID`), below `CHANNELS`.
         channel: u8,
@@ -16,11 +17,12 @@ pub enum PeerEvent {
         number: u64,
         bytes: Text,
     },
-    /// The other side acknowledged the DISCONNECT of this one.
+    /// The other side acknowledged the DISCONNECT of this one (`ENET_EVENT_TYPE_DISCONNECT`).
     Closed,
-    /// A DISCONNECT of the other side came.
+    /// A DISCONNECT of the other side came (`ENET_EVENT_TYPE_DISCONNECT`).
     PeerClosed,
-    /// A command was written `MOST_WRITES` times and isn't acknowledged, which ends the connection.
+    /// A command was written `MOST_WRITES` times and isn't acknowledged, which ends the connection
+    /// (`ENET_EVENT_TYPE_DISCONNECT`).
     Lost {
         /// Its channel (`channelID`): that of a message, or `CONTROL`.
         channel: u8,
