@@ -1,12 +1,13 @@
 #!/usr/bin/env python3
 """Runs the proved gstrial over a table of schedules and compares text, status and the line on standard error.
 
-    bench/schedules.py [PROGRAM]
+    bench/schedules.py [--program PROGRAM]
 
 PROGRAM is crates/gstrial/out/gstrial where it is left out (made by `rt run` or `rt ci`). Nothing is written but in a
 folder of its own that is removed. The status is 1 where a schedule differs.
 """
 
+import argparse
 import pathlib
 import struct
 import subprocess
@@ -40,7 +41,10 @@ TAPES = {
     "pairs": capture([(bytes(1_500), [], [])] * 2),
     "chain": capture(chained(8)),
     "sound": capture([(b"", [], [b"\1", b"\0", b"\0", b"\0"])], audio=1),
+    "sounds": capture([(b"", [], [bytes([unit]) for unit in b"abcdefghijkl"])], audio=1),
     "long": capture([(b"idr", [], [])] * 300),
+    "fives": capture([(bytes(1_500), [], [])] * 5),
+    "many": capture([(b"ABC", [], [])] * 65_537),
     "cut": capture([(b"ABC", [], [])])[:-1] + b"T" + bytes(6) + b"\5\0\0\0DEF",
     "behind": capture([(b"ABC", [], [])]) + b"E",
 }
@@ -98,6 +102,111 @@ RUNS = [
     ("a byte behind the end", "brief", "behind", [OPEN, "cap", "cap"], [], 4, "tape: kind 7 at 27"),
 ]
 
+# a session of frames of two datagrams each, of which so many are sent
+def halves(window, count):
+    return [f"{OPEN} {window}"] + ["cap", "send 1"] * count
+
+
+def halves_sent(count):
+    return [f"sent 1 {frame} 2 {frame} 0" for frame in range(1, count + 1)]
+
+
+def given(line, count):
+    """So many lines, each told before a channel's window of 256 is full."""
+    lines = []
+    for first in range(0, count, 250):
+        lines += [line] * min(250, count - first) + ["pump 1 0"]
+    return lines
+
+
+IDRS = given("idr 1", 29_999)
+ALL_SENT = [f"sent 1 {frame} 2 {frame} 0" for frame in range(1, 65_538)]
+LOST = [OPEN, "keydown 1 65 0"] + ["time 60000"] * 14
+SENT_MANY = [OPEN, "cap", "send 1", "video 1 1"] + ["cap", "send 1"] * 65_536
+MANY_TEXT = [ALL_SENT[0], "hand 1 1 2 3", *ALL_SENT[1:]]
+
+RUNS += [
+    ("a window of one leaves a frame at the next", "brief", "fives",
+     halves(1, 2) + ["video 1 1", "video 1 3"] + ["video 1 2", "video 1 4"],
+     halves_sent(2) + ["ask 1 1 1", "hand 1 2 2 1500", "total 1 2 1 1 0 0", "ok"], 0, ""),
+]
+for w in [2, 3, 4]:
+    RUNS += [
+        (f"a window of {w} waits for the oldest frame", "brief", "fives",
+         halves(w, w) + [f"video 1 {2 * f - 1}" for f in range(1, w + 1)] + ["video 1 4", "video 1 2"],
+         halves_sent(w) + ["hand 1 1 2 1500", "hand 1 2 2 1500", f"total 1 {w} 2 0 0 0", "ok"], 0, ""),
+        (f"a window of {w} leaves a frame when it is full", "brief", "fives",
+         halves(w, w + 1) + ["video 1 1", "video 1 3", "video 1 4"]
+         + [f"video 1 {2 * f - 1}" for f in range(3, w + 2)] + ["video 1 2"],
+         halves_sent(w + 1) + ["ask 1 1 1", "hand 1 2 2 1500", f"total 1 {w + 1} 1 1 0 0", "ok"], 0, ""),
+    ]
+
+EVENTS = ["keydown {} -32768 255", "keyup {} 65 0", "move {} 1 -2", "at {} 1 2 3 4", "press {} 5", "release {} 1",
+          "scroll {} 32767"]
+for event in EVENTS:
+    line, word = event.format(1), event.split()[0]
+    channel = 2 if word.startswith("key") else 3
+    RUNS.append((f"the event {word} alone", "brief", "one", [OPEN, line, "up 1 3"],
+                 [f"input 1 {channel} {event.replace('{} ', '')}", "total 1 0 0 0 1 0", "ok"], 0, ""))
+
+RUNS += [
+    ("a session alone", "brief", "one", [OPEN], ["total 1 0 0 0 0 0", "ok"], 0, ""),
+    ("a tick alone", "brief", "one", ["cap"], ["ok"], 0, ""),
+    ("time alone", "brief", "one", ["time 0"], ["ok"], 0, ""),
+    ("a turn with no tick", "brief", "one", [OPEN, "send 1"], ["total 1 0 0 0 0 0", "ok"], 0, ""),
+    ("a turn with no newer tick", "brief", "one", [OPEN, "cap", "send 1", "send 1"],
+     ["sent 1 1 2 1 0", "total 1 1 0 0 0 0", "ok"], 0, ""),
+    ("a pump with nothing", "brief", "one", [OPEN, "pump 1 0"], ["total 1 0 0 0 0 0", "ok"], 0, ""),
+    ("a request for an IDR frame alone", "brief", "one", [OPEN, "idr 1", "up 1 3"],
+     ["idr 1", "total 1 0 0 0 0 0", "ok"], 0, ""),
+    ("a close alone", "brief", "one", [OPEN, "close 1"], ["total 1 0 0 0 0 0", "ok"], 0, ""),
+    ("a close that is told", "brief", "one", [OPEN, "close 1", "up 1 3"], ["closed 1", "total 1 0 0 0 0 0", "ok"], 0, ""),
+    ("a reset alone", "brief", "one", [OPEN, "reset 1"], ["reset 1", "total 1 0 0 0 0 0", "ok"], 0, ""),
+    ("videos of one", "brief", "one", [OPEN, "cap", "send 1", "videos 1 1 1"],
+     ["sent 1 1 2 1 0", "hand 1 1 2 3", "total 1 1 1 0 0 0", "ok"], 0, ""),
+    ("a message acknowledged makes room", "brief", "one",
+     [OPEN] + ["keydown 1 65 0"] * 256 + ["up 1 3", "down 1 2", "keydown 1 65 0"],
+     ["input 1 2 keydown 65 0", "total 1 0 0 0 1 0", "ok"], 0, ""),
+    ("a message past a gap isn't acknowledged", "brief", "one", [OPEN] + ["keydown 1 65 0"] * 256 + ["up 1 4", "down 1 2"],
+     [], 9, "schedule: line 259"),
+    ("and makes no room", "brief", "one", [OPEN] + ["keydown 1 65 0"] * 256 + ["up 1 4", "keydown 1 65 0"],
+     ["full 1 2", "total 1 0 0 0 0 0", "ok"], 0, ""),
+    ("a full window for requests", "brief", "one", [OPEN] + ["idr 1"] * 257, ["full 1 1", "total 1 0 0 0 0 0", "ok"], 0, ""),
+    ("audio of three blocks with losses", "bytes", "sounds",
+     [OPEN, "cap", "send 1", *(f"audio 1 {k}" for k in [1, 2, 6, 7, 5, 8, 8, 11, 12, 9, 16, 17, 18, 14])],
+     ["sent 1 1 2 1 0", *(f"play 1 {u} 1\n{'abcdefghijkl'[u]}" for u in [0, 1, 4, 5, 6, 7, 8, 9, 10, 11]),
+      "total 1 1 0 0 0 10", "ok"], 0, ""),
+    ("two sessions, one of which loses", "brief", "pairs",
+     [OPEN] * 2 + ["cap", "send 1", "send 2"] * 2 + ["video 1 1", "video 2 1", "video 2 2", "video 1 3", "video 2 3",
+      "video 1 4", "video 2 4"],
+     ["sent 1 1 2 1 0", "sent 2 1 2 1 0", "sent 1 2 2 2 0", "sent 2 2 2 2 0", "hand 2 1 2 1500", "ask 1 1 1",
+      "hand 1 2 2 1500", "hand 2 2 2 1500", "total 1 2 1 1 0 0", "total 2 2 2 0 0 0", "ok"], 0, ""),
+    ("two sessions, one of which is lost", "brief", "one",
+     [OPEN] * 2 + ["keydown 1 65 0"] + ["time 60000"] * 14 + ["cap", "send 2", "video 2 1", "keydown 2 65 0", "up 2 3"],
+     ["lost 1", "sent 2 1 2 1 0", "hand 2 1 2 3", "input 2 2 keydown 65 0", "total 1 0 0 0 0 0", "total 2 1 1 0 1 0", "ok"],
+     0, ""),
+    ("a lost client is handed frames", "brief", "one", LOST + ["cap", "send 1", "video 1 1"],
+     ["lost 1", "sent 1 1 2 1 0", "hand 1 1 2 3", "total 1 1 1 0 0 0", "ok"], 0, ""),
+    ("the last moment", "brief", "one", ["time 60000"] * 66_666 + ["time 40000"], ["ok"], 0, ""),
+    ("a moment above the last", "brief", "one", ["time 60000"] * 66_666 + ["time 40000", "time 1"], [], 9,
+     "schedule: line 66668"),
+    ("the oldest datagram that may be named", "brief", "many", SENT_MANY + ["video 1 2"],
+     MANY_TEXT + ["hand 1 2 2 3", "total 1 65537 2 0 0 0", "ok"], 0, ""),
+    ("a datagram that is too old", "brief", "many", SENT_MANY + ["video 1 1"], MANY_TEXT, 9,
+     f"schedule: line {len(SENT_MANY) + 1}"),
+    ("the oldest up that may be named", "brief", "one", [OPEN] + ["down 1 1"] * 65_536 + ["up 1 3"],
+     ["total 1 0 0 0 0 0", "ok"], 0, ""),
+    ("an up that is too old", "brief", "one", [OPEN] + ["down 1 1"] * 65_536 + ["up 1 2"], [], 9, "schedule: line 65538"),
+    ("the 30,000th message", "brief", "one", [OPEN] + given("keydown 1 65 0", 30_000),
+     ["input 1 2 keydown 65 0"] * 30_000 + ["total 1 0 0 0 30000 0", "ok"], 0, ""),
+    ("the 30,001st message", "brief", "one", [OPEN] + given("keydown 1 65 0", 30_000) + ["keydown 1 65 0"],
+     ["input 1 2 keydown 65 0"] * 30_000, 9, f"schedule: line {len(given('', 30_000)) + 2}"),
+    ("the 30,001st ask", "brief", "many",
+     [OPEN] + IDRS + ["cap", "send 1"] * 5 + ["video 1 1", "video 1 3", "video 1 5"],
+     ["idr 1"] * 29_999 + ALL_SENT[:5] + ["hand 1 1 2 3", "ask 1 2 2", "hand 1 3 2 3"], 9,
+     f"schedule: line {len(IDRS) + 14}"),
+]
+
 # lines that can't be run behind a session, a tick, and a frame that was sent
 REFUSED = [
     "session 1023 0 0", "session 1441 0 0", "session 1024 101 0", "session 1024 0 256", "session 1024 0 0 0",
@@ -107,6 +216,9 @@ REFUSED = [
     "idr 2", "time 60001", "time", "pump 2 0", "pump 1", "close 2", "close 1 1", "reset 2", "video 1 01", "video 1  1",
     " video 1 1", "video 1 1 ", "VIDEO 1 1", "frames", "#" + 64 * "x", "video 1 4294967296",
 ]
+REFUSED += ["audio 2 1", "videos 2 1 1", "up 2 1", "send 9", "keyup 0 65 0", *(event.format(2) for event in EVENTS)]
+REFUSED_ALONE = ["send 1", "video 1 1", "videos 1 1 1", "audio 1 1", "up 1 1", "down 1 1", "idr 1", "pump 1 0", "close 1",
+                 "reset 1", *(event.format(1) for event in EVENTS)]
 REFUSED_AFTER_CLOSE = ["keydown 1 65 0", "idr 1", "close 1", "reset 1"]
 
 
@@ -118,11 +230,23 @@ def cases():
         yield f"refused: {line!r}", "brief", "one", before + [line], ["sent 1 1 2 1 0"], 9, "schedule: line 4"
     for line in REFUSED_AFTER_CLOSE:
         yield f"closed: {line!r}", "brief", "one", [OPEN, "close 1", line], [], 9, "schedule: line 3"
+    for line in ["idr 1", "close 1", *(event.format(1) for event in EVENTS)]:
+        yield f"lost: {line!r}", "brief", "one", LOST + [line], ["lost 1"], 9, f"schedule: line {len(LOST) + 1}"
+    for line in REFUSED_ALONE:
+        yield f"alone: {line!r}", "brief", "one", [line], [], 9, "schedule: line 1"
     yield "a ninth session", "brief", "one", [OPEN] * 9, [], 9, "schedule: line 9"
 
 
+def shown(ends):
+    """The text, status and error of a run, of a long text its end alone."""
+    text, status, error = ends
+    return text if len(text) < 2_000 else "... " + text[-300:], status, error
+
+
 def main():
-    program = pathlib.Path(sys.argv[1]) if len(sys.argv) > 1 else PROGRAM
+    words = argparse.ArgumentParser(description=__doc__.splitlines()[0])
+    words.add_argument("--program", type=pathlib.Path, default=PROGRAM)
+    program = words.parse_args().program
     if not program.exists():
         print(f"skipped: there is no {program}")
         return 0
@@ -139,7 +263,7 @@ def main():
             count += 1
             if told != meant:
                 wrong += 1
-                print(f"{name}: {told}, and not {meant}")
+                print(f"{name}: {shown(told)}, and not {shown(meant)}")
     print(f"{count} schedules, {wrong} differ")
     return int(wrong > 0)
 

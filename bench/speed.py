@@ -66,8 +66,11 @@ for n in [1, 4]:
 for n in [1, 4]:
     WORKLOADS.append((f"views of {n}", ["views", n], n, None))
 COUNTED |= {"choose", "turns of 1", "turns of 4", "views of 1", "views of 4"}
-# datagrams that a schedule of gstrial delivers line by line, each of a frame of its own
+# datagrams that a schedule of gstrial delivers line by line, of so many a frame
 SINGLES = 60_000
+TOGETHER = [100, 1]
+# sessions that a run only opens: what one costs is the difference between two such runs
+OPENED = [1, 8]
 
 
 def clock():
@@ -166,16 +169,38 @@ def generated_schedule(ticks):
     return lines + ["close 1", "pump 1 0", "close 2", "pump 2 0"]
 
 
-def single_capture(ticks):
-    """A capture file of ticks with an IDR unit of 14 bytes each, which goes out as one datagram."""
-    tick = b"T" + bytes(6) + (14).to_bytes(4, "little") + b"fourteen bytes"
+def handed_bytes(words):
+    """The bytes of each unit that a run hands in its first session."""
+    text = subprocess.run([TRIAL, *map(str, words)], capture_output=True, text=True, check=True).stdout
+    return [int(line.split()[4]) for line in text.splitlines() if line.startswith("hand 1 ")]
+
+
+def videos_schedule(units):
+    """The lines that deliver all video of each frame by one line, and by `pump` what the sides write alone."""
+    lines, first = ["session 1392 20 2"] * 2, 1
+    for number, unit in enumerate(units, 1):
+        data = -(-(8 + unit) // LEN)
+        last = first + data + max(2, -(-data * 20 // 100)) - 1
+        key = "keydown" if number % 2 else "keyup"
+        lines += ["cap", "send 1", "send 2", f"{key} 1 65 0"]
+        lines += [f"videos 1 {first} {last}", "pump 1 1", f"videos 2 {first} {last}", "pump 2 1"]
+        first = last + 1
+    return lines + ["close 1", "pump 1 1", "close 2", "pump 2 1"]
+
+
+def single_capture(ticks, together):
+    """A capture file of ticks with one IDR unit each, which goes out as so many datagrams."""
+    unit = bytes(1_008 * together - 8)
+    tick = b"T" + bytes(6) + len(unit).to_bytes(4, "little") + unit
     return b"GSTAPE01" + bytes([0, 0, 5, 0]) + ticks * tick + b"E"
 
 
-def single_schedule(ticks):
-    """Each of those ticks is sent, and its datagram delivered."""
-    lines = (line for tick in range(1, ticks + 1) for line in ("cap", "send 1", f"video 1 {tick}"))
-    return ["session 1024 0 0", *lines]
+def single_schedule(ticks, together):
+    """Each of those ticks is sent, and each datagram of it delivered by a line."""
+    lines = ["session 1024 0 0"]
+    for tick in range(ticks):
+        lines += ["cap", "send 1", *(f"video 1 {together * tick + k}" for k in range(1, together + 1))]
+    return lines
 
 
 def scripted(folder, name, lines):
@@ -192,8 +217,18 @@ def trial_runs(folder):
         with (folder / f"{ticks}").open("wb") as tape:
             subprocess.run([TRIAL, "tape", "7", f"{ticks}"], stdout=tape, check=True)
         yield f"script, {ticks} generated ticks", scripted(folder, f"{ticks}", generated_schedule(ticks))
-    (folder / "singles").write_bytes(single_capture(SINGLES))
-    yield f"script, {SINGLES} lines video 1 K", scripted(folder, "singles", single_schedule(SINGLES))
+        whole = ["pump 1 0" if line == "pump 1 50" else line for line in generated_schedule(ticks)]
+        (folder / f"{ticks} videos").symlink_to(folder / f"{ticks}")
+        units = handed_bytes(scripted(folder, f"{ticks} videos", whole))
+        yield f"the same by `videos` lines, {ticks}", scripted(folder, f"{ticks} videos", videos_schedule(units))
+    for together in TOGETHER:
+        name = f"singles {together}"
+        (folder / name).write_bytes(single_capture(SINGLES // together, together))
+        lines = single_schedule(SINGLES // together, together)
+        yield f"{SINGLES} lines video 1 K, {together} a frame", scripted(folder, name, lines)
+    (folder / "none").write_bytes(single_capture(0, 1))
+    for sessions in OPENED:
+        yield f"{sessions} opened", scripted(folder, "none", ["session 1024 0 0"] * sessions)
 
 
 def whole_run(words, by_processor):
@@ -224,6 +259,8 @@ def time_trial(args):
     print(f"gstrial, a whole run: the least {unit} of {args.rounds} rounds, and the most memory in MB")
     for row, (took, held) in best.items():
         print(f"{row:<36}{took:>10.3f}{held:>10.1f}")
+    few, many = (best[f"{sessions} opened"][0] for sessions in OPENED)
+    print(f"a session that is opened: {(many - few) / (OPENED[1] - OPENED[0]) * 1e6:.0f} microseconds")
 
 
 def main():
