@@ -2,6 +2,7 @@
 
 ghost use Rattle.std.specs.Prelude.{◌≡◌, ◌≤◌, ◌++◌, ◌↔◌, IfOk, MatchResult, None, Ok, Some, drop, length};
 
+use crate::limits::EVENT_ROOM;
 use crate::packet::{
     AT, KEY_DOWN, KEY_UP, MAGIC_AT, MOVE, PRESS, RELEASE, SCROLL, SIZE_AT, has_length, has_size,
     key_body, pair_body, put, read_body, scroll_body, square_body,
@@ -97,9 +98,9 @@ impl Event {
     pub fn write(&self, out: &mut [u8]) -> usize
         requires known { IsKnown self.now }
         requires button { HasButton self.now }
-        requires room { 32 ≤ length out.old }
+        requires room { EVENT_ROOM ≤ length out.old }
         ensures length { result ≡ length (packet_of self.now) }
-        ensures bound { result ≤ 32 }
+        ensures bound { result ≤ EVENT_ROOM }
         ensures written { out.new ≡ packet_of self.now ++ drop result out.old }
     {
         match *self {

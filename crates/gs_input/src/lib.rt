@@ -10,6 +10,7 @@
 mod arguments;
 mod event;
 mod laws;
+mod limits;
 mod line;
 mod mem_input;
 mod packet;
@@ -22,6 +23,7 @@ pub use laws::{
     last_key_event_decides, line_has_one_event, line_is_read, packet_has_one_event, packet_is_read,
     unknown_is_not_read,
 };
+pub use limits::EVENT_ROOM;
 pub use line::{read_arguments, read_line, write_line};
 pub use mem_input::MemInput;
 pub use pressed::Pressed;

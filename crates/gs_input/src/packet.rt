@@ -12,6 +12,7 @@ ghost use Rattle.gs_bytes.specs.Field.{big_from, little_from};
 ghost use Rattle.gs_input.specs.Packet.{IsBody, StandFrom, all_written, body_length, fields_of, has_bad_button, has_length, has_size, key_fields, magic_in, magic_of, packet_around};
 
 use crate::event::{BadEvent, Event};
+use crate::limits::EVENT_ROOM;
 use gs_bytes::{read_u16_be, read_u16_le, read_u32_be, write_u32_be, write_u32_le};
 
 pub const SIZE_AT: usize = 0;
@@ -151,10 +152,10 @@ pub fn read_body(magic: u32, bytes: &[u8]) -> Result<Event, BadEvent>
 
 /// Writes the packet around a body to the front of `out`, and answers its length.
 pub fn put(out: &mut [u8], magic: u32, body: &[u8]) -> usize
-    requires body { length body.now ≤ 24 }
-    requires room { 32 ≤ length out.old }
+    requires body { BODY_AT + length body.now ≤ EVENT_ROOM }
+    requires room { EVENT_ROOM ≤ length out.old }
     ensures length { result ≡ length (packet_around magic body.now) }
-    ensures bound { result ≤ 32 }
+    ensures bound { result ≤ EVENT_ROOM }
     ensures written { out.new ≡ packet_around magic body.now ++ drop result out.old }
 {
     let end = BODY_AT + body.len();

@@ -202,7 +202,7 @@ fn packets(rt: HostRuntime) -> Result<(), Fail> {
 
 #[test]
 fn written_packets(rt: HostRuntime) {
-    let mut out = [0xAA; 32];
+    let mut out = [0xAA; EVENT_ROOM];
     let length = Event::KeyDown {
         code: 65,
         modifiers: 0,
