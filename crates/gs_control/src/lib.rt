@@ -6,10 +6,12 @@
 #![tactic(auto)]
 
 mod laws;
+mod limits;
 mod message;
 mod payload;
 
 pub use laws::{bytes_are_one_message, message_is_read};
+pub use limits::MESSAGE_ROOM;
 pub use message::{BadMessage, Message};
 
 #[cfg(test)]

@@ -2,6 +2,7 @@
 
 ghost use Rattle.std.specs.Prelude.{◌≡◌, ◌≤◌, ◌++◌, ◌↔◌, IfErr, IfOk, Ok, drop, length};
 
+use crate::limits::MESSAGE_ROOM;
 use crate::payload::{put, put_input, range, read_payload};
 use gs_bytes::read_u16_le;
 use gs_input::Event;
@@ -86,7 +87,7 @@ impl Message {
     pub fn write(&self, out: &mut [u8]) -> usize
         requires written { IsWritten self.now }
         requires button { HasInputButton self.now }
-        requires room { 64 ≤ length out.old }
+        requires room { MESSAGE_ROOM ≤ length out.old }
         ensures length { result ≡ length (bytes_of self.now) }
         ensures written { out.new ≡ bytes_of self.now ++ drop result out.old }
     {

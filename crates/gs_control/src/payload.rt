@@ -1,18 +1,19 @@
 //! The payloads of control messages.
 
-ghost use Rattle.std.specs.Prelude.{◌≡◌, ◌≤◌, ◌++◌, ◌↔◌, IfSome, Some, drop, if◌then◌else◌, length, nat_le};
+ghost use Rattle.std.specs.Prelude.{◌≡◌, ◌≤◌, ◌+◌, ◌++◌, ◌↔◌, IfSome, Some, drop, if◌then◌else◌, length, nat_le};
 ghost use Rattle.gs_bytes.specs.Field.{little_bytes};
 ghost use Rattle.gs_input.specs.declared.event.Event.{Event};
 ghost use Rattle.gs_input.specs.Event.{HasButton, IsKnown};
 ghost use Rattle.gs_control.specs.declared.message.Message.{Message};
 ghost use Rattle.gs_control.specs.Message.{HasInputButton, IsPayload, bytes_of, message_kind, payload_of};
 
+use crate::limits::MESSAGE_ROOM;
 use crate::message::{
     IDR_REQUEST, INPUT, INVALIDATE, LOSS_STATS, Message, PING, RUMBLE, START_A, START_B,
     TERMINATION,
 };
 use gs_bytes::{read_i64_le, read_u32_be, write_i64_le, write_u16_le};
-use gs_input::Event;
+use gs_input::{EVENT_ROOM, Event};
 
 const PAYLOAD_AT: usize = 2;
 /// The longest payload of the messages whose payload isn't looked at.
@@ -21,8 +22,6 @@ const UNREAD_MAX: usize = 64;
 const RANGE_LEN: usize = 24;
 
 const CODE_LEN: usize = 4;
-/// What `Event::write` wants.
-const PACKET_MAX: usize = 32;
 
 /// A message whose payload isn't looked at.
 fn unread(payload: &[u8], message: Message) -> Option<Message>
@@ -95,8 +94,8 @@ pub fn range(first: i64, last: i64) -> [u8; RANGE_LEN]
 
 /// Writes a type and a payload to the front of `out`, and answers how many bytes they are.
 pub fn put(out: &mut [u8], kind: u16, payload: &[u8]) -> usize
-    requires payload { length payload.now ≤ 62 }
-    requires room { 64 ≤ length out.old }
+    requires payload { PAYLOAD_AT + length payload.now ≤ MESSAGE_ROOM }
+    requires room { MESSAGE_ROOM ≤ length out.old }
     ensures length { result ≡ length (little_bytes 2 kind ++ payload.now) }
     ensures written { out.new ≡ (little_bytes 2 kind ++ payload.now) ++ drop result out.old }
 {
@@ -110,11 +109,11 @@ pub fn put(out: &mut [u8], kind: u16, payload: &[u8]) -> usize
 pub fn put_input(out: &mut [u8], event: &Event) -> usize
     requires known { IsKnown event.now }
     requires button { HasButton event.now }
-    requires room { 64 ≤ length out.old }
+    requires room { MESSAGE_ROOM ≤ length out.old }
     ensures length { result ≡ length (bytes_of (Message.Input event.now)) }
     ensures written { out.new ≡ bytes_of (Message.Input event.now) ++ drop result out.old }
 {
-    let mut packet = [0; PACKET_MAX];
+    let mut packet = [0; EVENT_ROOM];
     let length = event.write(&mut packet);
     put(out, INPUT, &packet[..length])
 }

@@ -106,7 +106,7 @@ const TOO_LONG_PING: [u8; 67] = [
 
 #[test]
 fn written_messages(rt: HostRuntime) {
-    let mut out = [0xAA; 64];
+    let mut out = [0xAA; MESSAGE_ROOM];
     let length = Message::Invalidate { first: 2, last: 2 }.write(&mut out);
     assert_eq!(rt;
         &out[..length],
