@@ -1,4 +1,5 @@
--- What each kind of atomic step tells: of the seat before, the word found, and the seat after.
+-- Cited by private contracts alone: what each kind of atomic step tells of the seat before, the word found, and the
+-- seat after.
 use Rattle.std.specs.Prelude.{◌≡◌, ℕ, ◌+◌, ◌%◌, ◌^◌, ◌==◌, nat_lt, cond, List, [], ◌∷◌, ◌++◌, length, Option, Some}
 use Rattle.std.specs.Prelude.{None, IfSome, MatchBool}
 use Rattle.std.specs.List.{AllByRecursion}

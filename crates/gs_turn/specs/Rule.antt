@@ -1,5 +1,5 @@
--- The rule of a cell. Its words are the tickets drawn, the tickets served and the calls made, each modulo 2^64; its
--- slot has the state.
+-- Cited by private contracts alone: the rule of a cell. Its words are the tickets drawn, the tickets served and
+-- the calls made, each modulo 2^64; its slot has the state.
 use Rattle.std.specs.Prelude.{◌≡◌, ℕ, ◌+◌, ◌%◌, ◌^◌, ◌<◌, ◌≤◌, ◌⊎◌, ⊤, true, List, [], ◌∷◌, length, Option, Some}
 use Rattle.std.specs.Prelude.{None}
 use Rattle.std.specs.List.{AllByRecursion}

@@ -1,4 +1,4 @@
--- Where a pass stands.
+-- Cited by private contracts alone: where a pass stands.
 use Rattle.std.specs.Prelude.{ℕ, Bool, true, false, Option, Some, None}
 use Rattle.gs_turn.specs.declared.rule.Standing.{Standing}
 use Rattle.gs_turn.specs.declared.rule.Standing.TheVariants.{Arriving, Outside, Waiting, Serving}

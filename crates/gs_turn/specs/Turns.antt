@@ -1,4 +1,4 @@
--- What the parts of a call say of the pass's seat at the table of the cell.
+-- Cited by private contracts alone: what the parts of a call say of the pass's seat at the table of the cell.
 use Rattle.std.specs.Prelude.{◌≡◌, ℕ, ◌<◌, List, [], ◌∷◌, length, Option, Some}
 use mathlib.Core.List.{IsPrefix}
 use Rattle.atomic_table.specs.declared.shared.Seat.{Seat}
