@@ -1,4 +1,4 @@
--- How what is published grows.
+-- Cited by private contracts alone: how what is published grows.
 use Rattle.std.specs.Prelude.{◌≡◌, [], ◌∷◌, ◌++◌}
 use Rattle.std.specs.Arc.{arc_value}
 use mathlib.Core.List.{IsPrefix}

@@ -1,4 +1,4 @@
--- The rule of a capture's history, and what a step on it tells.
+-- Cited by private contracts alone: the rule of a capture's history, and what a step on it tells.
 use Rattle.std.specs.Prelude.{◌≡◌, ◌==◌, ℕ, true, List, [], ◌∷◌, ◌++◌, length, IsTrue}
 use Rattle.logbook.specs.Pages.{Cell, Step, View, Book, Named}
 use Rattle.gs_tape.specs.Tick.{Tick}

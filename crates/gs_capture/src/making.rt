@@ -2,6 +2,7 @@
 ghost use Rattle.std.specs.Prelude.{◌≡◌, ◌≤◌, [], length, drop, IfOk, Some};
 ghost use Rattle.std.specs.List.{AllByRecursion};
 ghost use Rattle.left_right.specs.Sides.{view};
+ghost use Rattle.gs_tape.specs.Limits.{most_audio, most_ticks};
 ghost use Rattle.gs_capture.specs.Captures.{opened, unread};
 
 use crate::history;
@@ -23,9 +24,9 @@ pub fn capture<Rt: Wait>(
     viewers: u32,
     audio: u16,
 ) -> Result<(Recorder, Vec<Viewer>), OutOfMemory>
-    requires ticks { (1 ≤ ticks) × (ticks ≤ 1048576) }
+    requires ticks { (1 ≤ ticks) × (ticks ≤ most_ticks) }
     requires viewers { (1 ≤ viewers) × (viewers ≤ 16) }
-    requires audio { audio ≤ 1400 }
+    requires audio { audio ≤ most_audio }
     ensures recorder { IfOk result (λ made. made.0 ≡ opened made.0.capture audio ticks) }
     ensures viewers { IfOk result (λ made. (length made.1.items ≡ viewers) × AllByRecursion (λ v. v ≡ unread made.0.capture audio) made.1.items) }
 {
