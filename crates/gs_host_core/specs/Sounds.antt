@@ -1,4 +1,4 @@
--- The datagrams that units of audio add behind others.
+-- Cited by private contracts alone: the datagrams that units of audio add behind others.
 use Rattle.std.specs.Prelude.{List, [], ◌∷◌, ◌++◌, ℕ}
 use Rattle.gs_rtp.specs.Stream.{StreamSettings}
 use Rattle.gs_audio.specs.Sending.{last_datagrams}

@@ -47,7 +47,7 @@ impl Host {
     ghost use Rattle.std.specs.Arc.{arc_value};
     ghost use Rattle.gs_rtp.specs.Limits.{most_frame};
     ghost use Rattle.gs_rtp.specs.Stream.{numbers_of};
-    ghost use Rattle.gs_tape.specs.Limits.{most_count};
+    ghost use Rattle.gs_tape.specs.Limits.{most_count, most_ticks};
     ghost use Rattle.gs_tape.specs.Tick as spec;
     ghost use Rattle.gs_tape.specs.Tick.{tick_numbered};
     ghost use Rattle.gs_refs.specs.declared.entry.Entry.{Entry};
@@ -136,7 +136,7 @@ impl Host {
 
     // Sends a tick: the choice joins the history.
     fn choose(&mut self, newest: &Tick) -> Result<Sent, TurnError>
-        requires { newest.now.number ≤ 1048576 }
+        requires { newest.now.number ≤ most_ticks }
         ensures answer { (result ≡ turn_answer self.old.history newest.now) ⊎ (result ≡ Err turn_error.OutOfMemory) }
         ensures sent { IfOk result (λ sent. sent ≡ next_sent self.old.history newest.now) }
         ensures above { IfOk result (λ sent. last_tick self.old.history < newest.now.number) }

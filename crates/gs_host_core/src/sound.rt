@@ -3,6 +3,7 @@
 ghost use Rattle.std.specs.Prelude.{ℕ, ◌≡◌, ◌≤◌, ◌+◌, ◌++◌, List, All, length, OnErr, OnOk};
 ghost use Rattle.std.specs.List.{flat_map};
 ghost use Rattle.gs_bytes.specs.Link.{IsCountedLink};
+ghost use Rattle.gs_rtp.specs.Audio.{units_end};
 ghost use Rattle.gs_audio.specs.Sending.{HasPushed, last_datagrams};
 ghost use Rattle.gs_host_core.specs.Puts.{PutsAll, PutsFront, told};
 ghost use Rattle.gs_host_core.specs.Sounds.{sound_behind};
@@ -47,7 +48,7 @@ pub(crate) fn put_units<L: Link>(
     to: Addr,
 ) -> Result<(), Failed>
     requires sizes { All (λ unit. length unit ≡ sender.old.settings.audio) units.now }
-    requires few { sender.old.pushed + length units.now ≤ 16777216 }
+    requires few { sender.old.pushed + length units.now ≤ units_end }
     ensures settings { sender.new.settings ≡ sender.old.settings }
     ensures count { sender.new.pushed ≤ sender.old.pushed + length units.now }
     ensures pushed { (before : List (List ℕ)) → HasPushed sender.old before
@@ -75,7 +76,7 @@ pub(crate) fn put_ticks<L: Link>(
     to: Addr,
 ) -> Result<(), Failed>
     requires sizes { All (λ t. All (λ unit. length unit ≡ sender.old.settings.audio) t.value.audio) ticks.now }
-    requires few { sender.old.pushed + length (flat_map (λ t. t.value.audio) ticks.now) ≤ 16777216 }
+    requires few { sender.old.pushed + length (flat_map (λ t. t.value.audio) ticks.now) ≤ units_end }
     ensures settings { sender.new.settings ≡ sender.old.settings }
     ensures count { sender.new.pushed ≤ sender.old.pushed + length (flat_map (λ t. t.value.audio) ticks.now) }
     ensures pushed { (before : List (List ℕ)) → HasPushed sender.old before

@@ -3,7 +3,7 @@ ghost use Rattle.gs_rtp.specs.Stream.{StreamSettings};
 ghost use Rattle.gs_host_core.specs.Hosting.{IsSendable};
 
 use crate::{Act, Host, ToldError, TurnError, act_of};
-use gs_bytes::{Addr, MemLink};
+use gs_bytes::{Addr, LinkEntry, MemLink};
 use gs_refs::Sent;
 use gs_rtp::Settings;
 use gs_tape::{Deltas, Tick, Unit, Units};
@@ -33,12 +33,15 @@ fn host(alloc: Global) -> Result<Host, Fail>
     Ok(Host::open(alloc, &settings()?)?)
 }
 
-// The third tick, with an audio unit.
+// The third tick, with four audio units, which are a whole block.
 fn tick(alloc: Global) -> Result<Tick, Fail>
     ensures { IfOk result (λ tick. (s : StreamSettings) → s.audio ≡ 1 → IsSendable s tick) }
 {
     let mut audio = Vec::new(alloc);
     audio.push(Unit::copy_of(alloc, &[7])?)?;
+    audio.push(Unit::copy_of(alloc, &[8])?)?;
+    audio.push(Unit::copy_of(alloc, &[9])?)?;
+    audio.push(Unit::copy_of(alloc, &[10])?)?;
     Ok(Tick {
         number: 3,
         time: 0,
@@ -62,15 +65,41 @@ fn first_turn(
     host.turn(newest, &[], video, audio, VIDEO, AUDIO)
 }
 
-// How many datagrams a host's first turn puts on its two links, where the calls of these numbers fail on the second, and
-// what it answers.
-fn turned(alloc: Global, fails: &[u64]) -> Result<(usize, usize, Result<Sent, TurnError>), Fail> {
+// The two links behind a host's first turn, where the calls of these numbers fail on the second, and what it answers.
+fn turned(
+    alloc: Global,
+    fails: &[u64],
+) -> Result<(MemLink, MemLink, Result<Sent, TurnError>), Fail> {
     let mut host = host(alloc)?;
     let newest = tick(alloc)?;
     let mut video = MemLink::new(alloc, &[])?;
     let mut audio = MemLink::new(alloc, fails)?;
     let sent = first_turn(&mut host, &newest, &mut video, &mut audio);
-    Ok((video.entries().len(), audio.entries().len(), sent))
+    Ok((video, audio, sent))
+}
+
+// Both are the same datagram, put to the same address.
+fn is_same_put(one: &LinkEntry, other: &LinkEntry) -> bool {
+    let (
+        LinkEntry::Put { to, bytes },
+        LinkEntry::Put {
+            to: at,
+            bytes: same,
+        },
+    ) = (one, other)
+    else {
+        return false;
+    };
+    to == at && bytes.as_bytes() == same.as_bytes()
+}
+
+// What was put on one link is a front of what was put on another.
+fn is_front(part: &[LinkEntry], whole: &[LinkEntry]) -> bool {
+    part.len() <= whole.len()
+        && part
+            .iter()
+            .zip(whole.iter())
+            .all(|(one, other)| is_same_put(one, other))
 }
 
 // The range from frame 2 to frame 2.
@@ -102,11 +131,24 @@ fn a_first_turn(rt: HostRuntime) -> Result<(), Fail> {
         reference: 0,
         named: 0,
     };
-    assert_eq!(rt; turned(rt.alloc(), &[])?, (1, 1, Ok(sent)));
-    assert_eq!(rt;
-        turned(rt.alloc(), &[1])?,
-        (1, 0, Err(TurnError::LinkFault))
-    );
+    let (video, audio, answer) = turned(rt.alloc(), &[])?;
+    assert_eq!(rt; video.entries().len(), 1);
+    assert_eq!(rt; audio.entries().len(), 6);
+    assert_eq!(rt; answer, Ok(sent));
+    Ok(())
+}
+
+// The four data datagrams and the two of parity are put one by one: where a call fails, those before it stand.
+#[test]
+fn an_audio_link_fails_at_each_call(rt: HostRuntime) -> Result<(), Fail> {
+    let (_, whole, _) = turned(rt.alloc(), &[])?;
+    for before in 0..6_u64 {
+        let (video, audio, answer) = turned(rt.alloc(), &[before + 1])?;
+        assert_eq!(rt; answer, Err(TurnError::LinkFault));
+        assert_eq!(rt; video.entries().len(), 1);
+        assert_eq!(rt; audio.entries().len() as u64, before);
+        assert!(rt; is_front(audio.entries(), whole.entries()));
+    }
     Ok(())
 }
 
