@@ -1,4 +1,4 @@
--- What the steps of a client's call make of one more datagram.
+-- Cited by private contracts alone: what the steps of a client's call make of one more datagram.
 use Rattle.std.specs.Prelude.{ℕ, ◌≡◌, true, List, ◌∷◌, ◌++◌, length, All, Option, Some, None}
 use Rattle.gs_frames.specs.Client.{ClientSettings, Arrival, Datagram}
 use Rattle.gs_frames.specs.Received.{Received, taken}
@@ -7,7 +7,7 @@ use Rattle.gs_frames.specs.Handed.{Handed, handed}
 use Rattle.gs_fecqueue.specs.declared.moved.Moved.{Moved}
 use Rattle.gs_fecqueue.specs.Moves.{moved_by}
 use Rattle.gs_fecqueue.specs.Standing.{is_at_hand, all_but_last}
-use Rattle.gs_fecqueue.specs.QueueLaws.{IsAtHand}
+use Rattle.gs_fecqueue.specs.QueueLaws.{HasImageAtHand}
 use Rattle.gs_depack.specs.declared.depack.Depack.{Depack}
 use Rattle.gs_depack.specs.Depack.{Handing, IsMove, StandsFor as DepackStandsFor}
 use Rattle.gs_client_core.specs.declared.given.Given.{Given}
@@ -31,7 +31,7 @@ IsTold d c came bytes (Some moved) = IsMovedOn d c came bytes moved
 
 -- a frame that is whole with this datagram, and wasn't complete
 pub record IsNowWhole (c : ClientSettings) (came : List Arrival) (bytes : List ℕ) : Type 0 where
-  pub at : IsAtHand c came bytes
+  pub at : HasImageAtHand c came bytes
   pub none_before : complete c (taken c came) at.r.head.frame ≡ None
 
 -- Behind these frames the rest was handed too: its indices stand in the places.

@@ -18,7 +18,7 @@ use Rattle.gs_frames.proofs.Counting.{greatest-new, greatest-kept}
 use Rattle.gs_frames.proofs.SettledUp.{left-not_from, left-not_says}
 use Rattle.gs_frames.proofs.Taken.{taken-some}
 use Rattle.gs_fecqueue.specs.Standing.{is_at_hand}
-use Rattle.gs_fecqueue.specs.QueueLaws.{IsAtHand, WholeFrameIsAtHand}
+use Rattle.gs_fecqueue.specs.QueueLaws.{HasImageAtHand, WholeFrameIsAtHand}
 use Rattle.gs_fecqueue.proofs.Given.{old-verdict}
 
 -- what is received is in the grammar
@@ -68,7 +68,7 @@ has_image None e = cc
 has_image (Some image) e = record { image = image; is = refl }
 
 of_judged : (c : ClientSettings) (came : List Arrival) (bytes : List ℕ) → HasWindow c → IsJudged c came bytes → MakesFrameWhole c came bytes
-    → verdict c came bytes ≡ FrameWhole → IsAtHand c came bytes
+    → verdict c came bytes ≡ FrameWhole → HasImageAtHand c came bytes
 of_judged c came bytes has is makes e =
     let w = c.window in
     let rs = taken c came in

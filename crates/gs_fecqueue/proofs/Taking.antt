@@ -21,7 +21,7 @@ use Rattle.gs_frames.specs.Received.{Received}
 use Rattle.gs_frames.specs.Verdict.{shape_came, first_or, is_same_shape, has_all, is_counted}
 use Rattle.gs_frames.specs.Complete.{joined_payloads}
 use Rattle.gs_fecqueue.specs.declared.block.Block.{Block}
-use Rattle.gs_fecqueue.specs.Places.{total_of, kept_payload, is_among, AreShards, HasPlaced}
+use Rattle.gs_fecqueue.specs.Places.{total_of, kept_payload, is_shard_held, AreShards, HasPlaced}
 use Rattle.gs_fecqueue.specs.Holding.{data_of, IsRoomOf, ArePlaced, IsReady, IsJoined, HoldsShards, HoldsBlock, Brings}
 use Rattle.gs_fecqueue.specs.Steps.{HasCountsOf, IsStarted, IsPut, KeepsHeld}
 use Rattle.gs_fecqueue.specs.BlockVerdict.{shape_in, made_block_whole, block_verdict, held_behind, first_behind}
@@ -33,7 +33,7 @@ pub join-are : (s : StreamSettings) (b0 : Block) (held : List Received) (first r
     → IsReady s b0 held first → IsJoined s held first r index payload → AreShards (r ∷ held) first
 join-are s b0 held first r index payload ready joins =
     let are = ready.are in
-    let Missing : ℕ → Type 0 = λ i. is_among held i ≡ false in
+    let Missing : ℕ → Type 0 = λ i. is_shard_held held i ≡ false in
     let within : r.head.index < total_of first.head = omega (arith, joins.index_is, joins.within) in
     record {
       grammar = are.grammar;
@@ -57,11 +57,11 @@ join-room s b0 b1 held first r index payload ready joins put there =
         | inl this ↦
             ap (λ (j : ℕ). get_or (set b0.present.items index true) j false) this
             ∙ get_or-set_same b0.present.items index true false there
-            ∙ sym (or_left (r.head.index == i) (is_among held i) (eq-eqb r.head.index i (joins.index_is ∙ sym this)))
+            ∙ sym (or_left (r.head.index == i) (is_shard_held held i) (eq-eqb r.head.index i (joins.index_is ∙ sym this)))
         | inr other ↦
             get_or-set_other b0.present.items index i true false other
             ∙ room.flags i h
-            ∙ sym (ap (λ (b : Bool). b || is_among held i) (ne_eqb r.head.index i (λ e. other (sym e ∙ joins.index_is))))
+            ∙ sym (ap (λ (b : Bool). b || is_shard_held held i) (ne_eqb r.head.index i (λ e. other (sym e ∙ joins.index_is))))
       ];
     }
 
@@ -72,7 +72,7 @@ join-placed s b0 b1 held first r index payload ready joins put =
     let size = payload_of s in
     let At : ℕ → List ℕ → ℕ → List ℕ = λ n l i. shard_of n l i in
     let whole : length payload ≡ size = joins.size in
-    let Missing : ℕ → Type 0 = λ i. is_among held i ≡ false in
+    let Missing : ℕ → Type 0 = λ i. is_shard_held held i ≡ false in
     let apart = apart-among r.head.index held (subst Missing (sym joins.index_is) joins.missing) in
     let here : At size b1.bytes.items r.head.index ≡ kept_payload r =
     ap (At size b1.bytes.items) joins.index_is
@@ -105,7 +105,7 @@ same-shape a b e =
     (eq-eqb a.percentage b.percentage (ap (λ (x : Shape). x.percentage) e))
 
 pub verdict-counts : (last : ℕ) (r : Received) (held : List Received) (first : Option Received)
-    → shape_in last r first ≡ shape_came r → is_among held r.head.index ≡ false → length held < r.head.shards
+    → shape_in last r first ≡ shape_came r → is_shard_held held r.head.index ≡ false → length held < r.head.shards
     → block_verdict last r held first ≡ made_block_whole (has_all (r ∷ held) (Some (first_or r first)))
 verdict-counts last r held first same missing few =
     let same_is : not (is_same_shape (shape_in last r first) (shape_came r)) ≡ false =
@@ -113,8 +113,8 @@ verdict-counts last r held first same missing few =
     let made = made_block_whole (has_all (r ∷ held) (Some (first_or r first))) in
     let spare : Added = if nat_le r.head.shards (length held) then Spare else made in
     cond-false (not (is_same_shape (shape_in last r first) (shape_came r))) (Foreign (OtherShape (shape_in last r first) (shape_came r)))
-    (if is_among held r.head.index then Repeat else spare) same_is
-    ∙ cond-false (is_among held r.head.index) Repeat spare missing
+    (if is_shard_held held r.head.index then Repeat else spare) same_is
+    ∙ cond-false (is_shard_held held r.head.index) Repeat spare missing
     ∙ cond-false (nat_le r.head.shards (length held)) Spare made (lt-leb r.head.shards (length held) few)
 
 counted-made : (b : Bool) → is_counted (made_block_whole b) ≡ true
@@ -137,7 +137,7 @@ TakeGives s after last held first r result =
     × HoldsBlock s after (held_behind (is_counted result) r held) (first_behind (is_counted result) r first)
 
 gives : (s : StreamSettings) (after : Block) (last : ℕ) (held : List Received) (first : Option Received) (r : Received) (result : Added)
-    → shape_in last r first ≡ shape_came r → is_among held r.head.index ≡ false → length held < r.head.shards
+    → shape_in last r first ≡ shape_came r → is_shard_held held r.head.index ≡ false → length held < r.head.shards
     → (first_or r first).head.shards ≡ r.head.shards
     → result ≡ made_block_whole (length (r ∷ held) == (first_or r first).head.shards) → HoldsShards s after (r ∷ held) (first_or r first)
     → TakeGives s after last held first r result
@@ -258,7 +258,7 @@ taken-more s b0 b2 head last payload result held None r grammar some same missin
 taken-more s b0 b2 head last payload result held (Some f) r grammar some same missing few holds brings hold =
     let room = holds.room in
     let says = says-same s b0 head last payload held f r grammar same room brings in
-    let not_there : is_among held head.index ≡ false = sym (room.flags head.index says.within) ∙ missing in
+    let not_there : is_shard_held held head.index ≡ false = sym (room.flags head.index says.within) ∙ missing in
     let less : length held < f.head.shards = omega (arith, room.count, room.shards) in
     let ready : IsReady s b0 held f = record { are = holds.are; room = room; few = less; placed = holds.placed less } in
     let joins : IsJoined s held f r head.index payload = record {
@@ -269,7 +269,7 @@ taken-more s b0 b2 head last payload result held (Some f) r grammar some same mi
       size = brings.size;
     } in
     let made = hold s held f r ready joins in
-    gives s b2 last held (Some f) r result says.shapes (ap (is_among held) says.index ∙ not_there) (omega (arith, says.shards)) says.shards made.0 made.1
+    gives s b2 last held (Some f) r result says.shapes (ap (is_shard_held held) says.index ∙ not_there) (omega (arith, says.shards)) says.shards made.0 made.1
 
 -- one that is held
 pub taken-again : (s : StreamSettings) (b0 : Block) (head : VideoHead) (last : ℕ) (payload : List ℕ) (held : List Received)
@@ -280,11 +280,11 @@ pub taken-again : (s : StreamSettings) (b0 : Block) (head : VideoHead) (last : �
 taken-again s b0 head last payload held None r grammar some same there holds brings = absurd (some holds.1)
 taken-again s b0 head last payload held (Some f) r grammar some same there holds brings =
     let says = says-same s b0 head last payload held f r grammar same holds.room brings in
-    let among : is_among held r.head.index ≡ true = ap (is_among held) says.index ∙ sym (holds.room.flags head.index says.within) ∙ there in
+    let among : is_shard_held held r.head.index ≡ true = ap (is_shard_held held) says.index ∙ sym (holds.room.flags head.index says.within) ∙ there in
     let same_is : not (is_same_shape (shape_in last r (Some f)) (shape_came r)) ≡ false =
     not_from_true _ (same-shape (shape_in last r (Some f)) (shape_came r) says.shapes) in
     let made = made_block_whole (has_all (r ∷ held) (Some f)) in
     let spare : Added = if nat_le r.head.shards (length held) then Spare else made in
     sym (cond-false (not (is_same_shape (shape_in last r (Some f)) (shape_came r))) (Foreign (OtherShape (shape_in last r (Some f)) (shape_came r)))
-    (if is_among held r.head.index then Repeat else spare) same_is
-    ∙ cond-true (is_among held r.head.index) Repeat spare among)
+    (if is_shard_held held r.head.index then Repeat else spare) same_is
+    ∙ cond-true (is_shard_held held r.head.index) Repeat spare among)

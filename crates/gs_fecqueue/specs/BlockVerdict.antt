@@ -1,4 +1,4 @@
--- The verdict of a block on a datagram of it, but for what is whole besides the block.
+-- Cited by private contracts alone: a block's verdict on a datagram of it, but for what is whole besides it.
 use Rattle.std.specs.Prelude.{ℕ, Bool, not, List, ◌∷◌, length, Option, Some, nat_le, ◌==◌, if◌then◌else◌}
 use Rattle.std.specs.List.{list_any}
 use Rattle.gs_frames.specs.declared.verdict.Added.{Added}

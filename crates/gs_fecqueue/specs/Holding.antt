@@ -6,7 +6,7 @@ use Rattle.gs_frames.specs.Shards.{payload_of}
 use Rattle.gs_frames.specs.Received.{Received}
 use Rattle.gs_frames.specs.Complete.{joined_payloads}
 use Rattle.gs_fecqueue.specs.declared.block.Block.{Block}
-use Rattle.gs_fecqueue.specs.Places.{total_of, kept_payload, is_among, AreShards, HasPlaced}
+use Rattle.gs_fecqueue.specs.Places.{total_of, kept_payload, is_shard_held, AreShards, HasPlaced}
 
 -- what stands at the places of the data shards
 abbrev pub data_of : ℕ → Block → List ℕ
@@ -18,7 +18,7 @@ pub record IsRoomOf (block : Block) (held : List Received) (first : Received) : 
   pub percentage : block.percentage ≡ first.head.percentage
   pub total : block.total ≡ total_of first.head
   pub count : block.held ≡ length held
-  pub flags : (i : ℕ) → i < total_of first.head → slice_index_or block.present.items i false ≡ is_among held i
+  pub flags : (i : ℕ) → i < total_of first.head → slice_index_or block.present.items i false ≡ is_shard_held held i
 
 -- each of them stands at its place
 abbrev pub ArePlaced : StreamSettings → Block → List Received → Type 0
@@ -36,7 +36,7 @@ pub record IsJoined (s : StreamSettings) (held : List Received) (first r : Recei
     : Type 0 where
   pub index_is : r.head.index ≡ index
   pub within : index < total_of first.head
-  pub missing : is_among held index ≡ false
+  pub missing : is_shard_held held index ≡ false
   pub payload_is : kept_payload r ≡ payload
   pub size : length payload ≡ payload_of s
 

@@ -1,4 +1,4 @@
--- The limits of what a queue holds.
+-- Cited by private contracts alone: the limits of what a queue holds.
 use Rattle.std.specs.Prelude.{ℕ, ◌*◌}
 use Rattle.gs_rtp.specs.Limits.{most_shards_of_block}
 use Rattle.gs_frames.specs.Plan.{most_blocks}

@@ -17,8 +17,8 @@ abbrev pub kept_payload : Received → List ℕ
 kept_payload r = drop packet_header r.shard
 
 -- one of them has this number
-abbrev pub is_among : List Received → ℕ → Bool
-is_among held index = list_any (λ r. r.head.index == index) held
+abbrev pub is_shard_held : List Received → ℕ → Bool
+is_shard_held held index = list_any (λ r. r.head.index == index) held
 
 -- shards of one block, as many as it has data shards at most, no two of one number; a head that is in the grammar says
 -- the block's counts
@@ -31,7 +31,7 @@ pub record AreShards (held : List Received) (first : Received) : Type 0 where
 -- a flag for each shard of the block, set where it is held
 pub record HasFlagsOf (flags : List Bool) (held : List Received) (first : Received) : Type 0 where
   pub count : length flags ≡ total_of first.head
-  pub each : (i : ℕ) → i < total_of first.head → slice_index_or flags i false ≡ is_among held i
+  pub each : (i : ℕ) → i < total_of first.head → slice_index_or flags i false ≡ is_shard_held held i
 
 -- each of them stands at its place, where payloads have this size
 abbrev pub HasPlaced : ℕ → List ℕ → List Received → Type 0

@@ -15,7 +15,7 @@ ResetChangesNothing =
     → StandsFor q client (Reset ∷ came)
 
 -- the frame of this datagram has an image, which is at hand
-pub record IsAtHand (client : ClientSettings) (came : List Arrival) (bytes : List ℕ) : Type 0 where
+pub record HasImageAtHand (client : ClientSettings) (came : List Arrival) (bytes : List ℕ) : Type 0 where
   pub r : Received
   pub is_received : IsReceived client.stream bytes r
   pub least : 1 ≤ r.head.frame
@@ -28,4 +28,4 @@ pub record IsAtHand (client : ClientSettings) (came : List Arrival) (bytes : Lis
 abbrev pub WholeFrameIsAtHand : Type 0
 WholeFrameIsAtHand =
     (client : ClientSettings) (came : List Arrival) (bytes : List ℕ) → HasWindow client
-    → verdict client came bytes ≡ FrameWhole → IsAtHand client came bytes
+    → verdict client came bytes ≡ FrameWhole → HasImageAtHand client came bytes

@@ -1,4 +1,4 @@
--- What the steps of a queue do to its frames.
+-- Cited by private contracts alone: what the steps of a queue do to its frames.
 use Rattle.std.specs.Prelude.{ℕ, ◌≡◌, ◌≢◌, ◌-◌, ◌%◌, ◌⊎◌, List, length, Option, Some, None, nat_lt, ◌==◌, if◌then◌else◌}
 use Rattle.std.specs.Prelude.{Result, Ok, Err}
 use Rattle.std.specs.List.{slice_get}

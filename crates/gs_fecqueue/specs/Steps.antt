@@ -1,4 +1,4 @@
--- What the steps of a block's room do to it.
+-- Cited by private contracts alone: what the steps of a block's room do to it.
 use Rattle.std.specs.Prelude.{ℕ, ◌≡◌, ◌≢◌, ◌+◌, ◌<◌, true, false, List, length, slice_set, slice_index_or}
 use Rattle.gs_rs.specs.Codeword.{shard_of}
 use Rattle.gs_rtp.specs.declared.video.VideoHead.{VideoHead}

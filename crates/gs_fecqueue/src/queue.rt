@@ -40,7 +40,7 @@ impl Queue {
     ghost use Rattle.gs_frames.specs.Verdict.{counting, judged, verdict};
     ghost use Rattle.gs_frames.specs.VerdictLaws.{image_of};
     ghost use Rattle.gs_frames.specs.Plan.{most_blocks};
-    ghost use Rattle.gs_frames.specs.Shards.{most_payload};
+    ghost use Rattle.gs_frames.specs.Shards.{packet_header, most_payload};
     ghost use Rattle.gs_fecqueue.specs.Holding.{Brings};
     ghost use Rattle.gs_fecqueue.specs.Moves.{is_whole_below, moved_behind, moved_by};
     ghost use Rattle.gs_fecqueue.specs.Standing.{is_at_hand, all_but_last, IsAt, IsAmong, IsStanding, StandsFor};
@@ -48,8 +48,8 @@ impl Queue {
 
     /// The queue of a client that was given nothing, with a window of 1 to 4 frames. It takes all its memory.
     pub fn new(alloc: Global, settings: &Settings, window: u8) -> Result<Queue, OutOfMemory>
-        requires least { 1 ≤ window }
-        requires greatest { window ≤ 4 }
+        requires least { least_window ≤ window }
+        requires greatest { window ≤ most_window }
         ensures { IfOk result (λ queue. (c : ClientSettings) → c.stream ≡ numbers_of settings.now → c.window ≡ window
             → StandsFor queue c []) }
     {
@@ -128,7 +128,7 @@ impl Queue {
 
     // How many bytes of a packet are payload.
     fn payload_size(&self) -> usize
-        ensures is { result ≡ self.now.packet - 16 }
+        ensures is { result ≡ self.now.packet - packet_header }
         ensures most { result ≤ most_payload }
     {
         usize::from(self.packet) - PACKET_HEADER
