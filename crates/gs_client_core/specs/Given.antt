@@ -1,6 +1,7 @@
 -- The units that a client gives, as the frames that are handed.
 use Rattle.std.specs.Prelude.{ℕ, ◌≡◌, ◌-◌, ◌++◌, List, length, map, replicate, Option, Some, None}
 use Rattle.std.specs.List.{filter_map}
+use Rattle.gs_frames.specs.Client.{most_window}
 use Rattle.gs_frames.specs.Handed.{Handed}
 use Rattle.gs_client_core.specs.declared.given.Given.{Given}
 
@@ -25,7 +26,7 @@ in_some n xs = map (λ x. Some x) xs ++ replicate (n - length xs) None
 
 -- as many places as a window can have frames
 abbrev pub in_places : {A : Type 0} → List A → List (Option A)
-in_places xs = in_some 4 xs
+in_places xs = in_some most_window xs
 
 -- The units given are these frames, in their order, each with its index, its kind and, byte for byte, its unit.
 abbrev pub AreGiven : List (Option Given) → List Handed → Type 0

@@ -1,7 +1,8 @@
 // Which frames are handed, and their units.
 
 ghost use Rattle.std.specs.Prelude.{◌≡◌, ◌≤◌, ◌+◌, List, length, Some, None};
-ghost use Rattle.gs_frames.specs.Client.{ClientSettings, Arrival};
+ghost use Rattle.gs_frames.specs.Client.{ClientSettings, Arrival, most_window};
+ghost use Rattle.gs_frames.specs.Shards.{packet_header};
 ghost use Rattle.gs_frames.specs.Handed.{Handed, handed};
 ghost use Rattle.gs_fecqueue.specs.Standing.{StandsFor as QueueStandsFor};
 ghost use Rattle.gs_depack.specs.Depack.{Handing};
@@ -17,7 +18,7 @@ use gs_frames::{IMAGE_HEADER_LENGTH, WINDOW_GREATEST};
 // The frames that are to be handed, which are as many as a window has, at most.
 pub(crate) fn next_frames(depack: &mut Depack) -> [Option<u32>; WINDOW_GREATEST]
     ensures { (c : ClientSettings) (came : List Arrival) (given : List Handed) → Handing depack.old c came None given
-        → length (handed c came) ≤ length given + 4 → HandsRest depack.new c came given result }
+        → length (handed c came) ≤ length given + most_window → HandsRest depack.new c came given result }
 {
     let frames = [depack.next(), depack.next(), depack.next(), depack.next()];
     // no more wait, but frames that were lost behind the last one may have to be passed by
@@ -27,7 +28,7 @@ pub(crate) fn next_frames(depack: &mut Depack) -> [Option<u32>; WINDOW_GREATEST]
 
 // The unit of a frame that is handed.
 fn unit_of(queue: &Queue, packet: u16, frame: u32) -> Option<Given<'_>>
-    requires packet { 16 ≤ packet }
+    requires packet { packet_header ≤ packet }
     ensures { (c : ClientSettings) (came : List Arrival) (h : Handed) → packet ≡ c.stream.packet
         → QueueStandsFor queue.now c came → IsReady c came h → frame ≡ h.frame → handed_at result ≡ Some h }
 {
@@ -44,7 +45,7 @@ fn unit_of(queue: &Queue, packet: u16, frame: u32) -> Option<Given<'_>>
 
 // What is given in a place.
 fn unit_in(queue: &Queue, packet: u16, place: Option<u32>) -> Option<Given<'_>>
-    requires packet { 16 ≤ packet }
+    requires packet { packet_header ≤ packet }
     ensures { (c : ClientSettings) (came : List Arrival) → packet ≡ c.stream.packet → QueueStandsFor queue.now c came
         → PlaceGives c came place result }
 {
@@ -60,7 +61,7 @@ pub(crate) fn units_of<'a>(
     packet: u16,
     frames: &[Option<u32>; WINDOW_GREATEST],
 ) -> [Option<Given<'a>>; WINDOW_GREATEST]
-    requires packet { 16 ≤ packet }
+    requires packet { packet_header ≤ packet }
     ensures { (c : ClientSettings) (came : List Arrival) (hs : List Handed) → packet ≡ c.stream.packet
         → QueueStandsFor queue.now c came → AreReady c came hs → frames.now ≡ in_places (frames_of hs)
         → AreGiven result hs }

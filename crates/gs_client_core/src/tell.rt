@@ -3,6 +3,7 @@
 ghost use Rattle.std.specs.Prelude.{ℕ, ◌≡◌, ◌≤◌, ◌∷◌, List, Option, None};
 ghost use Rattle.gs_frames.specs.Client.{ClientSettings, HasWindow, Arrival, Datagram};
 ghost use Rattle.gs_frames.specs.declared.verdict.Added.TheVariants.{FrameWhole};
+ghost use Rattle.gs_frames.specs.Shards.{packet_header};
 ghost use Rattle.gs_frames.specs.Verdict.{verdict};
 ghost use Rattle.gs_frames.specs.Handed.{handed};
 ghost use Rattle.gs_frames.specs.Asks.{newly_asked};
@@ -37,7 +38,7 @@ pub(crate) fn tell_moved(depack: &mut Depack, moved: &Option<Moved>) -> Option<R
 
 // Notes a frame that a datagram made whole, where its image is a frame's.
 fn note_frame(depack: &mut Depack, queue: &Queue, packet: u16, frame: u32)
-    requires packet { 16 ≤ packet }
+    requires packet { packet_header ≤ packet }
     ensures { (c : ClientSettings) (came : List Arrival) (bytes : List ℕ) (moved : Option Moved) → HasWindow c
         → packet ≡ c.stream.packet → QueueStandsFor queue.now c (Datagram bytes ∷ came)
         → IsTold depack.old c came bytes moved → (is : IsNowWhole c came bytes) → frame ≡ is.at.r.head.frame
@@ -51,7 +52,7 @@ fn note_frame(depack: &mut Depack, queue: &Queue, packet: u16, frame: u32)
 
 // Notes the frame of a datagram that made it whole.
 fn note_whole(depack: &mut Depack, queue: &Queue, packet: u16, datagram: &[u8])
-    requires packet { 16 ≤ packet }
+    requires packet { packet_header ≤ packet }
     ensures { (c : ClientSettings) (came : List Arrival) (moved : Option Moved) → HasWindow c
         → packet ≡ c.stream.packet → QueueStandsFor queue.now c (Datagram datagram.now ∷ came) → verdict c came datagram.now ≡ FrameWhole
         → IsTold depack.old c came datagram.now moved
@@ -71,7 +72,7 @@ pub(crate) fn tell_complete(
     what: Added,
     datagram: &[u8],
 )
-    requires packet { 16 ≤ packet }
+    requires packet { packet_header ≤ packet }
     ensures { (c : ClientSettings) (came : List Arrival) (moved : Option Moved) → HasWindow c
         → packet ≡ c.stream.packet → QueueStandsFor queue.now c (Datagram datagram.now ∷ came) → what ≡ verdict c came datagram.now
         → IsTold depack.old c came datagram.now moved

@@ -3,7 +3,7 @@ use Rattle.std.specs.Prelude.{ℕ, suc, ◌≡◌, ◌+◌, ◌-◌, ◌%◌, �
 use Rattle.std.specs.Prelude.{slice_index, ◌==◌, if◌then◌else◌}
 use Rattle.gs_depack.specs.declared.depack.Depack.{Depack}
 use Rattle.gs_fecqueue.specs.declared.moved.Moved.{Moved}
-use Rattle.gs_frames.specs.Client.{ClientSettings, Arrival, Datagram}
+use Rattle.gs_frames.specs.Client.{ClientSettings, Arrival, Datagram, most_window}
 use Rattle.gs_frames.specs.Received.{Received, IsReceived, taken, greatest}
 use Rattle.gs_frames.specs.Complete.{complete, IsComplete}
 use Rattle.gs_frames.specs.Settled.{settled}
@@ -11,15 +11,16 @@ use Rattle.gs_frames.specs.SettledLaws.{AreDone}
 use Rattle.gs_frames.specs.Handed.{Handed, settled_at_resets, handed_through, handed}
 use Rattle.gs_frames.specs.Kept.{kind_if_complete, last_of, is_waiting}
 
--- the kind that is noted of a frame: the greatest has a place of its own, each other one that of its number modulo 4
+-- the kind that is noted of a frame: the greatest has a place of its own, each other one that of its number modulo the
+-- greatest window
 abbrev pub noted_kind : Depack → ℕ → Option ℕ
 noted_kind d f =
     if f == d.greatest then d.newest
-    else (if slice_index d.frames (f % 4) == f then Some (slice_index d.kinds (f % 4)) else None)
+    else (if slice_index d.frames (f % most_window) == f then Some (slice_index d.kinds (f % most_window)) else None)
 
 -- no other place has the greatest frame, or one above it
 abbrev pub HasNoneAbove : Depack → Type 0
-HasNoneAbove d = (i : ℕ) → i < 4 → slice_index d.frames i ≤ d.greatest - 1
+HasNoneAbove d = (i : ℕ) → i < most_window → slice_index d.frames i ≤ d.greatest - 1
 
 -- a frame that became complete and isn't noted yet: it isn't settled, and its place is free
 pub record IsUnnoted (d : Depack) (c : ClientSettings) (f : ℕ) : Type 0 where

@@ -1,7 +1,7 @@
 // Which frames are handed, and which are asked for.
 
 ghost use Rattle.std.specs.Prelude.{◌≡◌, ◌<◌, ◌≤◌, ◌+◌, ◌∷◌, ◌&&◌, ◌==◌, not, ℕ, List, [], Option, Some, None, IsTrue, MatchBool, MatchOption};
-ghost use Rattle.gs_frames.specs.Client.{ClientSettings, HasWindow, Arrival, Datagram, Reset};
+ghost use Rattle.gs_frames.specs.Client.{ClientSettings, HasWindow, Arrival, Datagram, Reset, least_window, most_window};
 ghost use Rattle.gs_frames.specs.Received.{Received, taken};
 ghost use Rattle.gs_frames.specs.Complete.{IsComplete};
 ghost use Rattle.gs_frames.specs.Image.{Frame};
@@ -41,8 +41,8 @@ pub struct Depack {
 impl Depack {
     /// The depack of a client that was given nothing, with a window of 1 to 4 frames.
     pub fn new(window: u8) -> Depack
-        requires least { 1 ≤ window }
-        requires greatest { window ≤ 4 }
+        requires least { least_window ≤ window }
+        requires greatest { window ≤ most_window }
         ensures { (c : ClientSettings) → c.window ≡ window → StandsFor result c [] }
     {
         Depack {

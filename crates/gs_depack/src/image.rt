@@ -1,7 +1,7 @@
 // Reading the image of a frame.
 
 ghost use Rattle.std.specs.Prelude.{◌≡◌, ◌≤◌, length, MatchOption};
-ghost use Rattle.gs_frames.specs.Image.{frame_of, is_frame_image, is_kind, kind_of, last_read, unit_length};
+ghost use Rattle.gs_frames.specs.Image.{frame_of, header_length, is_frame_image, is_kind, kind_of, last_read, unit_length};
 ghost use Rattle.gs_depack.specs.ImageHead.{IsHeadOf};
 
 use byteorder::{ByteOrder, LittleEndian};
@@ -33,7 +33,7 @@ pub struct ImageHead {
 
 // The length of the last payload.
 fn last_length(image: &[u8]) -> u16
-    requires { 8 ≤ length image.now }
+    requires { header_length ≤ length image.now }
     ensures { result ≡ last_read image.now }
 {
     LittleEndian::read_u16(&image[LAST_LENGTH..])
