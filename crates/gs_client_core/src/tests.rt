@@ -1,3 +1,5 @@
+mod taken_whole;
+
 use crate::{Asker, Client, Given, Taken};
 use gs_enet::{Peer, PeerEvent};
 use gs_enet_wire::{Command, read};
