@@ -8,7 +8,7 @@ ghost use Rattle.gs_rtsp_text.specs.Reading.{GivesSize, HasRest, IsRestOf, IsWit
 
 use crate::header::Header;
 use crate::limits::MOST_BODY;
-use crate::lines::{header_parts, names_content_length, names_cseq};
+use crate::lines::{HeaderParts, header_parts, names_content_length, names_cseq};
 use crate::scan::literal;
 use crate::stop::Stop;
 use gs_bytes::{OutOfMemory, Text, parse_number};
@@ -97,7 +97,7 @@ pub(crate) fn body_size(kind: Kind, bytes: &[u8]) -> Result<(u32, &[u8]), Stop>
     };
     let mut rest = bytes;
     'lines: while !is_at_empty_line(rest) {
-        let ((name, value), behind) = header_parts(rest)?;
+        let (HeaderParts { name, value }, behind) = header_parts(rest)?;
         counts = counts.count(name, value);
         rest = behind;
     }
@@ -125,7 +125,7 @@ pub(crate) fn copy_headers(alloc: Global, bytes: &[u8]) -> Result<Vec<Header>, O
     let mut headers = Vec::new(alloc);
     let mut rest = bytes;
     'lines: while !is_at_empty_line(rest) {
-        let ((name, value), behind) = match header_parts(rest) {
+        let (HeaderParts { name, value }, behind) = match header_parts(rest) {
             Ok(parts) => parts,
             Err(_) => unreachable!(),
         };

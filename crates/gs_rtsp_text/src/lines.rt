@@ -61,14 +61,21 @@ fn value_of<'a>(name: &[u8], bytes: &'a [u8]) -> Result<(&'a [u8], &'a [u8]), St
     }
 }
 
-/// Reads a header line: its name and its value, of which nothing is copied.
+/// What a header line says, of which nothing is copied.
+#[derive(Clone, Copy)]
+pub(crate) struct HeaderParts<'a> {
+    pub name: &'a [u8],
+    pub value: &'a [u8],
+}
+
+/// Reads a header line.
 #[tactic(auto, unfolding(crate::specs::Reading::header_at))]
-pub(crate) fn header_parts(bytes: &[u8]) -> Result<((&[u8], &[u8]), &[u8]), Stop>
-    ensures { Stops (λ x. (record { name = x.0.0.now; value = x.0.1.now }, x.1.now)) result (header_at bytes.now) }
+pub(crate) fn header_parts(bytes: &[u8]) -> Result<(HeaderParts, &[u8]), Stop>
+    ensures { Stops (λ x. (record { name = x.0.name.now; value = x.0.value.now }, x.1.now)) result (header_at bytes.now) }
 {
     let (name, rest) = token(ByteClass::Name, b':', false, bytes)?;
     let (value, rest) = value_of(name, rest)?;
-    Ok(((name, value), rest))
+    Ok((HeaderParts { name, value }, rest))
 }
 
 impl Method {
@@ -108,15 +115,22 @@ fn method(bytes: &[u8]) -> Result<(Method, &[u8]), Stop>
     }
 }
 
-/// Reads the first line of a request: its method and its target.
+/// What the first line of a request says, of which nothing is copied.
+#[derive(Clone, Copy)]
+pub(crate) struct RequestLine<'a> {
+    pub method: Method,
+    pub target: &'a [u8],
+}
+
+/// Reads the first line of a request.
 #[tactic(auto, unfolding(crate::specs::Reading::request_line_at))]
-pub(crate) fn request_line(bytes: &[u8]) -> Result<((Method, &[u8]), &[u8]), Stop>
-    ensures { Stops (λ x. ((x.0.0, x.0.1.now), x.1.now)) result (request_line_at bytes.now) }
+pub(crate) fn request_line(bytes: &[u8]) -> Result<(RequestLine, &[u8]), Stop>
+    ensures { Stops (λ x. ((x.0.method, x.0.target.now), x.1.now)) result (request_line_at bytes.now) }
 {
     let (method, rest) = method(bytes)?;
     let (target, rest) = token(ByteClass::Target, b' ', false, rest)?;
     let rest = literal(b"RTSP/1.0\r\n", rest)?;
-    Ok(((method, target), rest))
+    Ok((RequestLine { method, target }, rest))
 }
 
 #[tactic(auto, unfolding(crate::specs::Reading::digit_at))]

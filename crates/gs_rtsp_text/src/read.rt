@@ -9,7 +9,7 @@ ghost use Rattle.gs_rtsp_text.specs.Reading.{IsWithin, answer_by, head_behind, h
 use crate::head::{Kind, body_size, copy_headers};
 use crate::header::Headers;
 use crate::limits::MOST_HEAD;
-use crate::lines::{request_line, status_line};
+use crate::lines::{RequestLine, request_line, status_line};
 use crate::message::{Read, Request, Response, TextError};
 use crate::stop::Stop;
 use gs_bytes::Text;
@@ -102,7 +102,7 @@ fn request_answer(alloc: Global, bytes: &[u8]) -> Result<Read<Request>, TextErro
         (answer_by bytes.now (head_by request_line_at is_one (take most_head bytes.now))) }
 {
     let front = head_part(bytes);
-    let ((method, target), rest) = match request_line(front) {
+    let (RequestLine { method, target }, rest) = match request_line(front) {
         Ok(line) => line,
         Err(stop) => return at_place(wrong_place(bytes, front, stop)),
     };

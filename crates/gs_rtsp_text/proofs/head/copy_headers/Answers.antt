@@ -11,14 +11,14 @@ unreachable-requires c =
     never_stops c.lines.headers.items c.args.bytes.now c.lines.rest.now c.in-Err.field-0 c.lines.invariant c.requires line c.in-Err.ensures
 
 pub lines-smaller : goal.lines-smaller
-lines-smaller c = header_shorter c.lines.rest.now (record { name = c.in-Ok.parts.0.0.now; value = c.in-Ok.parts.0.1.now }) c.in-Ok.parts.1.now c.in-Ok.ensures
+lines-smaller c = header_shorter c.lines.rest.now (record { name = c.in-Ok.parts.0.name.now; value = c.in-Ok.parts.0.value.now }) c.in-Ok.parts.1.now c.in-Ok.ensures
 
 pub lines-preserved : goal.lines-preserved
 lines-preserved c =
     let line : begins_with_cr c.lines.rest.now ≡ false = cc in
-    let one : c.push.new.self.items ≡ c.lines.headers.items ++ record { name = c.in-Ok.parts.0.0.now; value = c.in-Ok.parts.0.1.now } ∷ [] =
+    let one : c.push.new.self.items ≡ c.lines.headers.items ++ record { name = c.in-Ok.parts.0.name.now; value = c.in-Ok.parts.0.value.now } ∷ [] =
     c.in_ok-push.ensures.items ∙ ap (λ (x : Header). c.lines.headers.items ++ x ∷ []) c.in_ok-copy_of.ensures in
-    rw one (goes_on c.lines.headers.items c.args.bytes.now c.lines.rest.now (record { name = c.in-Ok.parts.0.0.now; value = c.in-Ok.parts.0.1.now })
+    rw one (goes_on c.lines.headers.items c.args.bytes.now c.lines.rest.now (record { name = c.in-Ok.parts.0.name.now; value = c.in-Ok.parts.0.value.now })
     c.in-Ok.parts.1.now c.lines.invariant line c.in-Ok.ensures)
 
 pub returns : goal.returns

@@ -24,7 +24,7 @@ returns-in-Err c =
 pub behind_first_line-requires-clause-rest : goal.behind_first_line-requires-clause-rest
 behind_first_line-requires-clause-rest c =
     let front = c.head_part-front.result.now in
-    rest_within IsRequestLine front ((c.in-Ok.line.0.0, c.in-Ok.line.0.1.now), c.in-Ok.line.1.now) (request_line_at front) (request_line_meets front)
+    rest_within IsRequestLine front ((c.in-Ok.line.0.method, c.in-Ok.line.0.target.now), c.in-Ok.line.1.now) (request_line_at front) (request_line_meets front)
     c.in-Ok.ensures
 
 pub returns-in_err-behind_first_line : goal.returns-in_err-behind_first_line
@@ -32,9 +32,9 @@ returns-in_err-behind_first_line c =
     let bytes = c.args.bytes.now in
     let front = c.head_part-front.result.now in
     let by = ap (λ (s : List ℕ). answer_by bytes (head_by request_line_at is_one s)) (sym c.head_part-front.ensures.part) in
-    let begun = answer_started (c.in-Ok.line.0.0, c.in-Ok.line.0.1.now) bytes request_line_at is_one front c.in-Ok.line.1.now c.in-Ok.ensures in
+    let begun = answer_started (c.in-Ok.line.0.method, c.in-Ok.line.0.target.now) bytes request_line_at is_one front c.in-Ok.line.1.now c.in-Ok.ensures in
     let p = err_from_is_err_and c.from_residual.result c.from_residual.ensures.1 in
-    rw (p.1, p.2) (err_answered request_message (c.in-Ok.line.0.0, c.in-Ok.line.0.1.now) c.in_err-behind_first_line.field-0.0 (answer_by bytes
+    rw (p.1, p.2) (err_answered request_message (c.in-Ok.line.0.method, c.in-Ok.line.0.target.now) c.in_err-behind_first_line.field-0.0 (answer_by bytes
     (head_behind tt is_one c.in-Ok.line.1.now)) _
     (by ∙ begun) c.in_err-behind_first_line.ensures)
 
@@ -43,8 +43,8 @@ returns-in-More c =
     let bytes = c.args.bytes.now in
     let front = c.head_part-front.result.now in
     let by = ap (λ (s : List ℕ). answer_by bytes (head_by request_line_at is_one s)) (sym c.head_part-front.ensures.part) in
-    let begun = answer_started (c.in-Ok.line.0.0, c.in-Ok.line.0.1.now) bytes request_line_at is_one front c.in-Ok.line.1.now c.in-Ok.ensures in
-    more_answered (c.in-Ok.line.0.0, c.in-Ok.line.0.1.now) c.in_ok-behind_first_line.field-0 (answer_by bytes (head_behind tt is_one
+    let begun = answer_started (c.in-Ok.line.0.method, c.in-Ok.line.0.target.now) bytes request_line_at is_one front c.in-Ok.line.1.now c.in-Ok.ensures in
+    more_answered (c.in-Ok.line.0.method, c.in-Ok.line.0.target.now) c.in_ok-behind_first_line.field-0 (answer_by bytes (head_behind tt is_one
     c.in-Ok.line.1.now)) _ (by ∙ begun) c.in-More.is
     c.in_ok-behind_first_line.ensures
 
@@ -53,9 +53,9 @@ returns-in_ok-target-in-Whole c =
     let bytes = c.args.bytes.now in
     let front = c.head_part-front.result.now in
     let by = ap (λ (s : List ℕ). answer_by bytes (head_by request_line_at is_one s)) (sym c.head_part-front.ensures.part) in
-    let begun = answer_started (c.in-Ok.line.0.0, c.in-Ok.line.0.1.now) bytes request_line_at is_one front c.in-Ok.line.1.now c.in-Ok.ensures in
-    let whole = whole_answered (c.in-Ok.line.0.0, c.in-Ok.line.0.1.now) c.in_ok-behind_first_line.field-0 c.in-Whole.value c.in-Whole.used
+    let begun = answer_started (c.in-Ok.line.0.method, c.in-Ok.line.0.target.now) bytes request_line_at is_one front c.in-Ok.line.1.now c.in-Ok.ensures in
+    let whole = whole_answered (c.in-Ok.line.0.method, c.in-Ok.line.0.target.now) c.in_ok-behind_first_line.field-0 c.in-Whole.value c.in-Whole.used
     (answer_by bytes (head_behind tt is_one c.in-Ok.line.1.now)) _ (by ∙ begun) c.in-Whole.is c.in_ok-behind_first_line.ensures in
-    let target = ap (λ (t : List ℕ). Whole (record { start = (c.in-Ok.line.0.0, t); headers = c.in-Whole.value.headers; body = c.in-Whole.value.body })
+    let target = ap (λ (t : List ℕ). Whole (record { start = (c.in-Ok.line.0.method, t); headers = c.in-Whole.value.headers; body = c.in-Whole.value.body })
     c.in-Whole.used) (sym c.in_ok-target-in-Whole.ensures) in
     whole ∙ target
