@@ -1,9 +1,7 @@
 //! The numbers that the headers of the set-up carry, spelled once for both ends.
 
 ghost use Rattle.std.specs.Prelude.{◌≡◌, ℕ, ◌+◌, ◌^◌, ◌<◌, ◌++◌, replicate, IfOk, IfSome, OnOk, Some};
-ghost use Rattle.std.specs.Option.{option_copied};
 ghost use Rattle.std.specs.List.{before_first, position};
-ghost use Rattle.gs_sdp.specs.Lines.{behind as behind_of};
 ghost use Rattle.gs_rtsp.specs.Fields.{field_name, field_prefix, least_digits as least_digits_of, field_text, field_number, padded, padded_number as padded_number_of, without_zeros as without_zeros_of, counted as counted_of, header_number as header_number_of, is_semicolon, is_number};
 
 use gs_bytes::{OutOfMemory, Text, parse_number, trim};
@@ -97,7 +95,7 @@ impl Field {
     fn number_in(self, value: &[u8]) -> Option<u32>
         ensures { result ≡ field_number self value.now }
     {
-        let digits = behind(self.prefix(), value)?;
+        let digits = value.strip_prefix(self.prefix())?;
         padded_number(self.least_digits(), digits)
     }
 }
@@ -121,17 +119,6 @@ fn push_padded(out: &mut Vec<u8>, least: usize, number: u32) -> Result<(), Alloc
     let digits = buffer.format(number).as_bytes();
     push_zeros(out, least.saturating_sub(digits.len()))?;
     out.extend_from_slice(digits)
-}
-
-/// The bytes behind a prefix, where it is one.
-fn behind<'a>(prefix: &[u8], bytes: &'a [u8]) -> Option<&'a [u8]>
-    ensures { option_copied result ≡ behind_of prefix.now bytes.now }
-{
-    if bytes.starts_with(prefix) {
-        Some(&bytes[prefix.len()..])
-    } else {
-        None
-    }
 }
 
 /// Digits without the zeros before the others; the last digit stays.
