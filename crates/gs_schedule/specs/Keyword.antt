@@ -1,4 +1,4 @@
--- The first words of the lines that have only numbers behind them.
+-- Cited by private contracts alone: the first words of the lines that have only numbers behind them.
 use Rattle.std.specs.Prelude.{ℕ, List, codes}
 use Rattle.gs_schedule.specs.declared.keyword.Keyword.{Keyword}
 use Rattle.gs_schedule.specs.declared.keyword.Keyword.TheVariants.{Session, Cap, Send, Video, Audio, Videos, Up, Down}
