@@ -4,14 +4,15 @@ use Rattle.std.specs.Prelude.{ℕ, ◌≡◌, ◌+◌, ◌*◌, ◌/◌, ◌%◌
 use Rattle.std.specs.Prelude.{true, false, ◌&&◌, not, nat_lt, ◌==◌, if◌then◌else◌, Option, Some, None}
 use Rattle.byteorder.specs.Endian.{big_bytes, big_from}
 use Rattle.gs_rtp.specs.declared.audio.AudioHead.{AudioHead}
+use Rattle.gs_rtp.specs.declared.limits.TheConstants.{AUDIO_BLOCK_UNITS, AUDIO_BLOCK_PARITY, AUDIO_UNITS_END}
 use Rattle.gs_rtp.specs.Stream.{StreamSettings, AreSettingsWithinLimits}
 
 -- units of a block, and shards of parity of it
 abbrev pub block_units : ℕ
-block_units = 4
+block_units = AUDIO_BLOCK_UNITS
 
 abbrev pub block_parity : ℕ
-block_parity = 2
+block_parity = AUDIO_BLOCK_PARITY
 
 -- the payload types of a unit and of parity
 abbrev pub unit_type : ℕ
@@ -22,7 +23,7 @@ parity_type = 127
 
 -- the units of a session are fewer than this, the blocks a fourth of it
 abbrev pub units_end : ℕ
-units_end = 16777216
+units_end = AUDIO_UNITS_END
 
 abbrev pub fixed_length : ℕ
 fixed_length = 12

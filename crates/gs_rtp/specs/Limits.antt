@@ -1,4 +1,4 @@
--- The limits of a stream's settings and of the head of a video datagram.
+-- The limits of a stream's settings, and of the heads of its datagrams.
 use Rattle.std.specs.Prelude.{ℕ}
 use Rattle.gs_rtp.specs.declared.limits.TheConstants.{PACKET_LEAST, PACKET_GREATEST, PERCENTAGE_GREATEST}
 use Rattle.gs_rtp.specs.declared.limits.TheConstants.{MINIMUM_GREATEST, FPS_LEAST, FPS_GREATEST, DURATION_SHORT}

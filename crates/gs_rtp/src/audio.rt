@@ -16,17 +16,9 @@ ghost use Rattle.gs_rtp.specs.Audio.{
 };
 
 use crate::Settings;
+use crate::limits::{AUDIO_BLOCK_PARITY, AUDIO_BLOCK_UNITS, AUDIO_UNITS_END};
 use crate::number::big_u32;
 use byteorder::{BigEndian, ByteOrder};
-
-/// How many units a block has.
-pub const AUDIO_BLOCK_UNITS: u32 = 4;
-
-/// How many parity shards a block has.
-pub const AUDIO_BLOCK_PARITY: u8 = 2;
-
-/// A session has fewer audio units than this.
-pub const AUDIO_UNITS_END: u32 = 16_777_216;
 
 /// The length of a unit's header.
 pub const AUDIO_UNIT_HEADER_LENGTH: usize = 12;

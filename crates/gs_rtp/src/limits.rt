@@ -1,4 +1,4 @@
-// The limits of a stream's settings and of the head of a video datagram.
+// The limits of a stream's settings, and of the heads of its datagrams.
 
 /// The least packet size, in bytes.
 pub const PACKET_LEAST: u16 = 1_024;
@@ -41,3 +41,12 @@ pub const SHARDS_GREATEST: u16 = 1_023;
 
 /// The greatest number of data and parity shards of a block that has parity.
 pub const CODE_SHARDS_GREATEST: u32 = 255;
+
+/// How many units a block of audio has.
+pub const AUDIO_BLOCK_UNITS: u32 = 4;
+
+/// How many parity shards a block of audio has.
+pub const AUDIO_BLOCK_PARITY: u8 = 2;
+
+/// A session has fewer audio units than this.
+pub const AUDIO_UNITS_END: u32 = 16_777_216;
