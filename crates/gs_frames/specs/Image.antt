@@ -2,6 +2,7 @@
 use Rattle.std.specs.Prelude.{ℕ, ◌≡◌, ◌+◌, ◌-◌, ◌*◌, ◌/◌, ◌%◌, Bool, ◌&&◌, ◌||◌, not, List, [], ◌∷◌, ◌++◌, length, take}
 use Rattle.std.specs.Prelude.{drop, replicate, slice_index, Option, Some, None, nat_le, ◌==◌, if◌then◌else◌}
 use Rattle.byteorder.specs.Endian.{little_bytes, little_number}
+use Rattle.gs_rtp.specs.Limits.{most_last_block, most_shards_of_block}
 
 -- division that rounds up, by a number that isn't 0
 abbrev pub ceil_div : ℕ → ℕ → ℕ
@@ -44,8 +45,9 @@ kind_of kind = if kind == 4 then 1 else kind
 abbrev pub last_read : List ℕ → ℕ
 last_read image = little_number 2 (drop 4 image)
 
+-- the most packets of a frame: each block with the most data shards
 abbrev pub most_packets : ℕ
-most_packets = 4092
+most_packets = (most_last_block + 1) * most_shards_of_block
 
 -- Whole payloads of eight bytes or more behind a header in order: the mark, a known kind, and a last
 -- payload that isn't empty, fits, and has room for the header where it is the only one.
