@@ -2,11 +2,12 @@
 use Rattle.std.specs.Prelude.{ℕ, ◌≡◌, ◌+◌, ◌-◌, ◌*◌, ◌/◌, ◌%◌, ◌<◌, ◌≤◌, true, false, List, [], ◌∷◌, ◌++◌, length, take}
 use Rattle.std.specs.Prelude.{All, ◌==◌, if◌then◌else◌}
 use Rattle.std.specs.List.{concat}
+use Rattle.gs_bytes.specs.Limits.{most_audio}
 use Rattle.gs_rs.specs.Shape.{audio_code}
 use Rattle.gs_rs.specs.Shards.{with_parity_shards}
 use Rattle.gs_rtp.specs.Stream.{StreamSettings}
 use Rattle.gs_rtp.specs.declared.audio.AudioHead.{AudioHead}
-use Rattle.gs_rtp.specs.Audio.{block_units}
+use Rattle.gs_rtp.specs.Audio.{block_units, units_end}
 use Rattle.gs_rtp.specs.AudioDatagrams.{units_of_block, unit_datagrams, audio_datagrams}
 
 -- The stream's settings, how many units were pushed, how many datagrams of the last one are ready, and the bytes of the
@@ -46,9 +47,9 @@ pub record HasPushed (s : Sending) (units : List (List ℕ)) : Type 0 where
 
 -- what a sender's fields have: room for the shards of a block, and at most so many units and datagrams
 pub record IsSound (audio pushed ready room : ℕ) : Type 0 where
-  pub most : audio ≤ 1400
+  pub most : audio ≤ most_audio
   pub size : room ≡ 6 * audio
-  pub few : pushed ≤ 16777216
+  pub few : pushed ≤ units_end
   pub some : 0 < ready → 0 < pushed
   pub few_ready : ready ≤ 3
 

@@ -1,4 +1,4 @@
--- What the steps of a room and of a queue do.
+-- Cited by private contracts alone: what the steps of a room and of a queue do.
 use Rattle.std.specs.Prelude.{ℕ, ◌≡◌, ◌≢◌, ◌+◌, Bool, true, List, ◌∷◌, slice_set, Option, Some, None, ◌==◌}
 use Rattle.std.specs.Prelude.{if◌then◌else◌, nat_lt}
 use Rattle.gs_rtp.specs.Stream.{StreamSettings}

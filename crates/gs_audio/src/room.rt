@@ -1,6 +1,7 @@
 // A block's shards that are held, in a room with a place for each.
 
 ghost use Rattle.std.specs.Prelude.{ℕ, ◌≡◌, ◌≢◌, ◌≤◌, ◌<◌, ◌+◌, ◌*◌, ◌%◌, List, [], length, IfOk, vec_len};
+ghost use Rattle.gs_bytes.specs.Limits.{most_audio};
 ghost use Rattle.gs_rs.specs.Codeword.{shard_of};
 ghost use Rattle.gs_rs.specs.Shards.{HeldShard};
 ghost use Rattle.gs_audio.specs.Places.{AreShards, HasMarks, HasPlaced, HasRestored};
@@ -26,7 +27,7 @@ pub(crate) struct Room {
     bytes: Vec<u8>,
     ghost few: { held ≤ 4 },
     ghost flags: { length present ≡ 6 },
-    ghost most: { size ≤ 1400 },
+    ghost most: { size ≤ most_audio },
     ghost room: { vec_len bytes ≡ 6 * size },
 }
 
@@ -40,7 +41,7 @@ impl Room {
 
     // A room for shards of this size, with none in it.
     pub(crate) fn new(alloc: Global, size: usize) -> Result<Room, OutOfMemory>
-        requires { size ≤ 1400 }
+        requires { size ≤ most_audio }
         ensures size { IfOk result (λ room. room.size ≡ size) }
     {
         Ok(Room {

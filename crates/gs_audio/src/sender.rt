@@ -4,7 +4,7 @@ ghost use Rattle.std.specs.Prelude.{ℕ, ◌≡◌, ◌≤◌, ◌<◌, ◌+◌,
 ghost use Rattle.std.specs.List.{concat, slice_get};
 ghost use Rattle.gs_rs.specs.Codeword.{shard_of};
 ghost use Rattle.gs_rtp.specs.Stream.{numbers_of};
-ghost use Rattle.gs_rtp.specs.Audio.{IsAudioHead};
+ghost use Rattle.gs_rtp.specs.Audio.{IsAudioHead, units_end};
 ghost use Rattle.gs_audio.specs.Sending.{HasParity, HasPushed, last_datagrams, ready_head, ready_place};
 
 use crate::room::{BLOCK_SHARDS, BLOCK_UNITS};
@@ -65,7 +65,7 @@ impl AudioSender {
     /// Takes the session's next unit, and answers how many datagrams are ready: 1, or 3 behind the last unit of a block.
     pub fn push(&mut self, unit: &[u8]) -> u32
         requires size { length unit.now ≡ self.old.settings.audio }
-        requires more { self.old.pushed < 16777216 }
+        requires more { self.old.pushed < units_end }
         ensures settings { self.new.settings ≡ self.old.settings }
         ensures count { self.new.pushed ≡ self.old.pushed + 1 }
         ensures ready { self.new.ready ≡ result }
