@@ -4,7 +4,7 @@ use Rattle.std.specs.Prelude.{nat_lt, nat_le, slice_index, ◌==◌, ◌||◌, t
 use Rattle.std.specs.List.{All}
 use Rattle.std.proofs.lemmas.List.Elements.{All-from_recursion, All-head, All-tail, All-map, All-same, All-weaker}
 use Rattle.std.proofs.lemmas.Bool.{cases_Bool, cond-true, cond-false, and_parts, ltb-true, ne_eqb}
-use Rattle.gs_frames.specs.Image.{ceil_div}
+use Rattle.gs_frames.specs.Image.{ceil_div, most_packets}
 use Rattle.gs_frames.specs.Plan.{BlockPlan, most_shards, most_blocks, has_parity, block_count, parts, with_parity, without_parity, fec_plan}
 use Rattle.gs_frames.proofs.Plans.{data_shards-are}
 use Rattle.gs_frames.proofs.PlanLimits.{IsWithinGrammar, fec_plan-within}
@@ -80,7 +80,7 @@ map-protected-with percentage minimum (d ∷ ds) least some =
     (map-protected-with percentage minimum ds least (All-tail (λ d. 1 ≤ d) d ds some))
 
 -- each block of a frame has data shards
-pub some-each : (n percentage minimum : ℕ) → 1 ≤ n → n ≤ 3969 → percentage ≤ 100 → minimum ≤ 2
+pub some-each : (n percentage minimum : ℕ) → 1 ≤ n → n ≤ most_packets → percentage ≤ 100 → minimum ≤ 2
     → All (λ d. 1 ≤ d) (parts n (block_count n percentage))
 some-each n percentage minimum some few within most =
     All-same (λ d. 1 ≤ d) (parts n (block_count n percentage)) (map (λ b. b.data_shards) (fec_plan n percentage minimum))
@@ -94,7 +94,7 @@ abbrev pub planned : ℕ → ℕ → ℕ
 planned n percentage = if has_parity n percentage then percentage else 0
 
 -- the parts, each protected at that percentage, are the plan
-pub protected-are : (n percentage minimum : ℕ) → 1 ≤ n → n ≤ 3969 → percentage ≤ 100 → minimum ≤ 2
+pub protected-are : (n percentage minimum : ℕ) → 1 ≤ n → n ≤ most_packets → percentage ≤ 100 → minimum ≤ 2
     → map (protected (planned n percentage) minimum) (parts n (block_count n percentage)) ≡ fec_plan n percentage minimum
 unfolding fec_plan
 protected-are n percentage minimum some few within most = elim (cases_Bool (has_parity n percentage)) [
@@ -113,7 +113,7 @@ protected-are n percentage minimum some few within most = elim (cases_Bool (has_
 
 -- ---- the whole plan
 
-pub plan-is : (n blocks sent percentage minimum : ℕ) (a b c d : Block) → 1 ≤ n → n ≤ 3969 → percentage ≤ 100 → minimum ≤ 2
+pub plan-is : (n blocks sent percentage minimum : ℕ) (a b c d : Block) → 1 ≤ n → n ≤ most_packets → percentage ≤ 100 → minimum ≤ 2
     → AreFew n blocks → blocks ≡ block_count n percentage → sent ≡ planned n percentage
     → AreBlocks n blocks sent minimum a b c d
     → blocks_of (plan_of_blocks n blocks sent a b c d) ≡ fec_plan n percentage minimum

@@ -3,7 +3,7 @@ use Rattle.std.proofs.Common.{◌≡◌, ◌<◌, ◌≤◌, ◌+◌, ◌-◌, �
 use Rattle.std.specs.Prelude.{min, nat_lt, nat_le, slice_index}
 use Rattle.std.proofs.lemmas.Bool.{cond-true, cond-false, cond_both, and_parts, leb-true, lt-ltb}
 use Rattle.std.proofs.lemmas.Nat.{div-add-mod', div-mul-add, div_below, mod_below, le-div, mul-le}
-use Rattle.gs_frames.specs.Image.{ceil_div}
+use Rattle.gs_frames.specs.Image.{ceil_div, most_packets}
 use Rattle.gs_frames.specs.Plan.{most_shards, most_blocks, most_bare, has_parity, block_count, parts}
 use Rattle.gs_frames.proofs.Images.{parted, ceil_div-parted}
 use Rattle.gs_frames.proofs.Plans.{few_bare}
@@ -48,7 +48,7 @@ pub record AreFew (n blocks : ℕ) : Type 0 where
   pub few : blocks ≤ 4
   pub room : n ≤ blocks * 1023
 
-pub block_count-few : (n percentage : ℕ) → 1 ≤ n → n ≤ 3969 → percentage ≤ 100 → AreFew n (block_count n percentage)
+pub block_count-few : (n percentage : ℕ) → 1 ≤ n → n ≤ most_packets → percentage ≤ 100 → AreFew n (block_count n percentage)
 block_count-few n percentage some most within =
     cond_both (has_parity n percentage) (ceil_div n (most_shards percentage)) (ceil_div n most_bare) (AreFew n)
     (λ parity.

@@ -9,11 +9,10 @@ use Rattle.std.proofs.lemmas.Option.{get_or_from_slice_get, slice_get_within}
 use Rattle.gs_rtp.specs.declared.settings.Settings.{Settings}
 use Rattle.gs_rtp.specs.Stream.{StreamSettings, numbers_of}
 use Rattle.gs_rtp.specs.Video.{parity_count}
-use Rattle.gs_frames.specs.Image.{ceil_div, packets}
+use Rattle.gs_frames.specs.Image.{ceil_div, most_packets, packets}
 use Rattle.gs_frames.specs.Plan.{BlockPlan, most_shards, most_blocks, has_parity, block_count, parts, with_parity, without_parity, fec_plan}
 use Rattle.gs_frames.specs.Shards.{payload_of}
 use Rattle.gs_frames.proofs.FramesReceived.{packets-within, data_total, data_total-cons}
-use Rattle.gs_frames.proofs.Images.{parted_image, packets-is}
 use Rattle.gs_frames.proofs.Plans.{plan_covers}
 use Rattle.gs_frames.proofs.PlanLimits.{IsWithinGrammar, ArePlans, fec_plan-within}
 use Rattle.gs_split.specs.declared.frame.LoadedFrame.{LoadedFrame}
@@ -99,7 +98,7 @@ positive percentage minimum d least most some =
     omega (arith, one))
     (λ enough. omega arith)
 
-positive-blocks : (n percentage minimum : ℕ) → 1 ≤ n → n ≤ 3969 → percentage ≤ 100 → minimum ≤ 2 → has_parity n percentage ≡ true
+positive-blocks : (n percentage minimum : ℕ) → 1 ≤ n → n ≤ most_packets → percentage ≤ 100 → minimum ≤ 2 → has_parity n percentage ≡ true
     → All (λ b. 0 < b.percentage) (fec_plan n percentage minimum)
 unfolding fec_plan
 positive-blocks n percentage minimum some few within most parity =
@@ -112,15 +111,6 @@ positive-blocks n percentage minimum some few within most parity =
     (λ d h. positive percentage minimum d (ltb-true 0 percentage tests.0) most h) ds (some-each n percentage minimum some few within most)))
 
 -- ---- a frame
-
--- a unit within its limit takes at most so many packets
-planned_packets : (length payload : ℕ) → 1008 ≤ payload → length ≤ 4000000 → packets length payload ≤ 3969
-planned_packets length payload large few =
-    let p = parted_image length payload (omega arith) in
-    let n : packets length payload ≡ p.whole + 1 = packets-is length payload p in
-    let last : 1 ≤ p.last = p.last_least in
-    let least : p.whole * 1008 ≤ p.whole * payload = mul-le p.whole 1008 p.whole payload (omega arith) large in
-    omega (arith, n, p.sum, least)
 
 plan-are : (s : StreamSettings) (p : Plan) (length : ℕ) → HasLimits s → length ≤ 4000000 → blocks_of p ≡ plans_at s length → ArePlans (blocks_of p)
 plan-are s p length limits few blocks =
@@ -161,7 +151,7 @@ planned-coded s f limits planned parity =
     let bounds = packets-within f.unit_length (payload_of s) (omega arith) planned.limit in
     let are = planned-are s f limits planned in
     let says = subst (λ l. All (λ b. 0 < b.percentage) l) (sym planned.blocks)
-    (positive-blocks n s.percentage s.minimum bounds.0 (planned_packets f.unit_length (payload_of s) (omega arith) planned.limit)
+    (positive-blocks n s.percentage s.minimum bounds.0 bounds.1
     limits.percentage_greatest limits.minimum_greatest parity) in
     λ i d h. (are.each i d h).codable (says i d h)
 

@@ -1,4 +1,4 @@
--- A loaded frame, and what its datagrams are made of.
+-- Cited by private contracts alone: a loaded frame, and what its datagrams are made of.
 use Rattle.std.specs.Prelude.{ℕ, ◌≡◌, ◌≤◌, ◌<◌, ◌+◌, ◌-◌, ◌*◌, ◌%◌, ◌^◌, ◌++◌, List, take, drop, Some, true}
 use Rattle.std.specs.Prelude.{if◌then◌else◌}
 use Rattle.std.specs.List.{slice_get}

@@ -1,4 +1,4 @@
--- Where the blocks of a frame stand in it.
+-- Cited by private contracts alone: where the blocks of a frame stand in it.
 use Rattle.std.specs.Prelude.{ℕ, zero, suc, ◌≡◌, ◌≤◌, ◌+◌, ◌*◌, List, [], ◌∷◌, Some}
 use Rattle.std.specs.List.{slice_get}
 use Rattle.gs_frames.specs.Plan.{BlockPlan}

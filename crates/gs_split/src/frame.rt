@@ -41,33 +41,39 @@ pub(crate) struct LoadedFrame {
     pub(crate) datagrams: u32,
 }
 
+// What is said of a frame beside its unit: its number, its kind, and the time of its tick in milliseconds.
+#[derive(Clone, Copy)]
+pub(crate) struct FrameLabel {
+    pub(crate) frame: u32,
+    pub(crate) kind: u8,
+    pub(crate) time: u32,
+}
+
 impl LoadedFrame {
     // A frame of a stream of these settings, with its plan.
     pub(crate) fn plan(
         settings: &Settings,
         count: u32,
-        frame: u32,
-        kind: u8,
-        time: u32,
+        label: FrameLabel,
         unit_length: u32,
     ) -> LoadedFrame
-        requires frame_least { 1 ≤ frame }
-        requires frame_greatest { frame ≤ most_frame }
-        requires written { IsWrittenKind kind }
+        requires frame_least { 1 ≤ label.frame }
+        requires frame_greatest { label.frame ≤ most_frame }
+        requires written { IsWrittenKind label.kind }
         requires limit { unit_length ≤ most_unit }
         ensures planned { IsPlanned (numbers_of settings.now) result }
         ensures count { result.count ≡ count }
-        ensures frame { result.frame ≡ frame }
-        ensures kind { result.kind ≡ kind }
-        ensures time { result.time ≡ time }
+        ensures frame { result.frame ≡ label.frame }
+        ensures kind { result.kind ≡ label.kind }
+        ensures time { result.time ≡ label.time }
         ensures unit_length { result.unit_length ≡ unit_length }
     {
         let plan = plan_of(unit_length, settings);
         LoadedFrame {
             count,
-            frame,
-            kind,
-            time,
+            frame: label.frame,
+            kind: label.kind,
+            time: label.time,
             unit_length,
             plan,
             datagrams: plan.datagrams(),

@@ -4,7 +4,7 @@ ghost use Rattle.std.specs.Prelude.{◌≡◌, ◌≤◌, ◌<◌, ◌*◌, slic
 ghost use Rattle.gs_bytes.specs.Limits.{most_unit};
 ghost use Rattle.gs_rtp.specs.Limits.{most_shards_of_block};
 ghost use Rattle.gs_rtp.specs.Stream.{numbers_of};
-ghost use Rattle.gs_frames.specs.Image.{packets};
+ghost use Rattle.gs_frames.specs.Image.{most_packets, packets};
 ghost use Rattle.gs_frames.specs.Plan.{block_count, fec_plan, has_parity, most_shards, parts};
 ghost use Rattle.gs_frames.specs.Shards.{payload_of};
 ghost use Rattle.gs_split.specs.Plans.{IsZeroFrom, block_plan, blocks_of, protected};
@@ -40,7 +40,7 @@ fn packets_of(len: u32, payload: u16) -> u32
     requires payload { 1008 ≤ payload }
     ensures is { result ≡ packets len payload }
     ensures least { 1 ≤ result }
-    ensures most { result ≤ 3969 }
+    ensures most { result ≤ most_packets }
 {
     (IMAGE_HEADER_LENGTH as u32 + len).div_ceil(u32::from(payload))
 }
@@ -64,7 +64,7 @@ fn is_protected(packets: u32, percentage: u8) -> bool
 // How many blocks a frame of so many packets has.
 fn blocks_at(packets: u32, percentage: u8) -> u32
     requires least { 1 ≤ packets }
-    requires most { packets ≤ 3969 }
+    requires most { packets ≤ most_packets }
     requires within { percentage ≤ 100 }
     ensures is { result ≡ block_count packets percentage }
     ensures some { 1 ≤ result }
@@ -150,17 +150,25 @@ fn protect(shards: u16, percentage: u8, minimum: u8) -> Block
     }
 }
 
+// How many packets are parted, and into how many blocks.
+#[derive(Clone, Copy)]
+struct Parting {
+    packets: u32,
+    blocks: u32,
+}
+
 // A block of a plan of so many packets in so many blocks.
-fn block_of(packets: u32, blocks: u32, block: u32, percentage: u8, minimum: u8) -> Block
-    requires some { 1 ≤ blocks }
-    requires few { blocks ≤ 4 }
+fn block_of(parting: Parting, block: u32, percentage: u8, minimum: u8) -> Block
+    requires some { 1 ≤ parting.blocks }
+    requires few { parting.blocks ≤ 4 }
     requires block { block < 4 }
-    requires room { packets ≤ blocks * most_shards_of_block }
+    requires room { parting.packets ≤ parting.blocks * most_shards_of_block }
     requires within { percentage ≤ 100 }
     requires least { minimum ≤ 2 }
-    ensures { block_plan result ≡ protected percentage minimum (slice_index (parts packets blocks) block) }
+    ensures { block_plan result
+        ≡ protected percentage minimum (slice_index (parts parting.packets parting.blocks) block) }
 {
-    let shards = part(packets, blocks, block) as u16;
+    let shards = part(parting.packets, parting.blocks, block) as u16;
     protect(shards, percentage, minimum)
 }
 
@@ -182,10 +190,11 @@ pub fn plan_of(len: u32, settings: &Settings) -> Plan
     let blocks = blocks_at(packets, settings.percentage);
     let percentage = percentage_at(packets, settings.percentage);
     let Settings { minimum, .. } = *settings;
-    let a = block_of(packets, blocks, 0, percentage, minimum);
-    let b = block_of(packets, blocks, 1, percentage, minimum);
-    let c = block_of(packets, blocks, 2, percentage, minimum);
-    let d = block_of(packets, blocks, 3, percentage, minimum);
+    let parting = Parting { packets, blocks };
+    let a = block_of(parting, 0, percentage, minimum);
+    let b = block_of(parting, 1, percentage, minimum);
+    let c = block_of(parting, 2, percentage, minimum);
+    let d = block_of(parting, 3, percentage, minimum);
     Plan {
         packets,
         blocks: blocks as u8,

@@ -11,7 +11,7 @@ ghost use Rattle.gs_split.specs.Splitting.{IsFresh, IsLoaded, KeepsShards, frame
 ghost use Rattle.gs_split.specs.Loaded.{IsPlanned, outgoing};
 
 use crate::datagram::RTP_HEADER;
-use crate::frame::LoadedFrame;
+use crate::frame::{FrameLabel, LoadedFrame};
 use crate::plan::{BLOCKS_GREATEST, Plan};
 use gs_bytes::OutOfMemory;
 use gs_rtp::{CODE_SHARDS_GREATEST, Settings};
@@ -138,7 +138,8 @@ impl Splitter {
             → IsLoaded self.new (frame_behind count frame kind time unit.now) }
     {
         let count = self.loaded.count.wrapping_add(self.loaded.datagrams);
-        let loaded = LoadedFrame::plan(&self.settings, count, frame, kind, time, unit.len() as u32);
+        let label = FrameLabel { frame, kind, time };
+        let loaded = LoadedFrame::plan(&self.settings, count, label, unit.len() as u32);
         keep_shards(&self.settings, &loaded, unit, &mut self.kept);
         self.loaded = loaded;
         loaded.datagrams
