@@ -1,4 +1,4 @@
--- Absent data shards as sums of the chosen shards, each times its weight.
+-- Cited by private contracts alone: absent data shards as sums of the chosen shards, each times its weight.
 use Rattle.std.specs.Prelude.{◌≡◌, ◌≢◌, ℕ, ◌+◌, ◌*◌, ◌<◌, List, Bool, length, map, slice_index, bit_xor}
 use Rattle.gs_gf256.specs.Field.{product, quotient, field_sum}
 use Rattle.gs_rs.specs.declared.shape.CodeShape.{CodeShape}

@@ -1,4 +1,4 @@
--- Rows of sums, as they are written block by block.
+-- Cited by private contracts alone: rows of sums, as they are written block by block.
 use Rattle.std.specs.Prelude.{◌≡◌, ℕ, ◌+◌, ◌*◌, ◌<◌, ◌≤◌, ◌⊎◌, List, length, slice_index}
 use Rattle.gs_gf256.specs.Field.{product, field_sum}
 use Rattle.gs_gf256.specs.Table.{times, table_at}
