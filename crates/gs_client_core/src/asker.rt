@@ -7,7 +7,7 @@ ghost use Rattle.gs_control.specs.Message.{IsWritten, HasInputButton};
 ghost use Rattle.gs_client_core.specs.Owed.{message_of, owed_message, SendsOne};
 
 use gs_bytes::OutOfMemory;
-use gs_control::Message;
+use gs_control::{MESSAGE_ROOM, Message};
 use gs_enet::{Peer, SendError};
 use gs_frames::Range;
 use std::alloc::Global;
@@ -47,7 +47,7 @@ impl Owed {
     fn send(&self, peer: &mut Peer) -> Result<bool, OutOfMemory>
         ensures { (r : PeerRecord) → PeerStandsFor peer.old r → SendsOne r (owed_message self.now) result peer.new }
     {
-        let mut out = [0; 64];
+        let mut out = [0; MESSAGE_ROOM];
         let length = self.message().write(&mut out);
         match peer.send(REQUEST_CHANNEL, &out[..length]) {
             Ok(_) => Ok(true),

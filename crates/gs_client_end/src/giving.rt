@@ -12,7 +12,7 @@ ghost use Rattle.gs_client_end.specs.Outcomes.{Gives, AsksIdr, Closes};
 use crate::ClientEnd;
 use crate::end::REQUEST_CHANNEL;
 use gs_bytes::OutOfMemory;
-use gs_control::Message;
+use gs_control::{MESSAGE_ROOM, Message};
 use gs_enet::SendError;
 use gs_input::Event;
 use gs_report::Reporter;
@@ -48,7 +48,7 @@ impl ClientEnd {
         ensures { IfOk result (λ done. (session : ℕ) (part : Part) → StandsFor self.old session part
             → Gives session event.now part done self.new reporter.old reporter.new) }
     {
-        let mut out = [0; 64];
+        let mut out = [0; MESSAGE_ROOM];
         let length = Message::Input(*event).write(&mut out);
         self.give_message(channel_of(event), &out[..length], reporter)
     }
@@ -58,7 +58,7 @@ impl ClientEnd {
         ensures { IfOk result (λ done. (session : ℕ) (part : Part) → StandsFor self.old session part
             → AsksIdr session part done self.new reporter.old reporter.new) }
     {
-        let mut out = [0; 64];
+        let mut out = [0; MESSAGE_ROOM];
         let length = Message::IdrRequest.write(&mut out);
         self.give_message(REQUEST_CHANNEL, &out[..length], reporter)
     }

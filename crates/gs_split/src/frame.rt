@@ -3,7 +3,7 @@
 ghost use Rattle.std.specs.Prelude.{◌≡◌, ◌≤◌, ◌+◌, ◌*◌, length, map, true};
 ghost use Rattle.std.specs.List.{concat};
 ghost use Rattle.gs_bytes.specs.Limits.{most_unit};
-ghost use Rattle.gs_rtp.specs.Limits.{most_frame};
+ghost use Rattle.gs_rtp.specs.Limits.{most_frame, most_shards_of_code};
 ghost use Rattle.gs_rtp.specs.Stream.{numbers_of};
 ghost use Rattle.gs_frames.specs.Datagrams.{frame_shards};
 ghost use Rattle.gs_frames.specs.Image.{packets};
@@ -145,7 +145,7 @@ impl LoadedFrame {
     fn write_block(&self, settings: &Settings, block: &PlacedBlock, unit: &[u8], out: &mut [u8])
         requires size { length out.old ≡ (block.now.shards + block.now.parity) * settings.now.packet }
         requires some { 1 ≤ block.now.shards }
-        requires code { block.now.shards + block.now.parity ≤ 255 }
+        requires code { block.now.shards + block.now.parity ≤ most_shards_of_code }
         requires few { block.now.first_datagram ≤ 400000 }
         requires written { IsWrittenKind self.now.kind }
         requires limit { length unit.now ≤ most_unit }

@@ -1,4 +1,4 @@
--- Reading a capture file from a source, step by step.
+-- Cited by private contracts alone: reading a capture file from a source, step by step.
 use Rattle.std.specs.Prelude.{◌≡◌, ◌≢◌, ◌+◌, ◌≤◌, ℕ, Bool, List, length, Option, Some, None, Result, Ok, Err, ⊤}
 use Rattle.std.specs.Io.KnownBytes.{Keeps}
 use Rattle.gs_bytes.specs.Outside.{KeepsFlag, Rose}
