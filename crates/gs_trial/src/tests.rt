@@ -1,3 +1,7 @@
+mod captures;
+mod rows;
+mod windows;
+
 use super::{TrialStatus, trial_main};
 use gs_bytes::{MemSink, MemSource};
 use std::alloc::Global;
@@ -143,6 +147,15 @@ fn a_generated_run_is_made(rt: HostRuntime) -> Result<(), Fail> {
     let (status, out) = trial_of(rt.alloc(), "make 1 1", "", [0, 0, 0])?;
     assert_eq!(rt; status, TrialStatus::Ok);
     assert!(rt; out.written() == b"total 1 1 1 0 1 0\ntotal 2 1 1 0 0 0\nok\n".as_slice());
+    Ok(())
+}
+
+#[test]
+fn a_generated_run_of_many_ticks_is_made(rt: HostRuntime) -> Result<(), Fail> {
+    let (status, out) = trial_of(rt.alloc(), "make 7 600", "", [0, 0, 0])?;
+    assert_eq!(rt; status, TrialStatus::Ok);
+    let sums = b"total 1 600 600 0 600 2000\ntotal 2 600 600 0 0 2000\nok\n";
+    assert!(rt; out.written() == sums.as_slice());
     Ok(())
 }
 
