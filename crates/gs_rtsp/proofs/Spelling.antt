@@ -1,14 +1,14 @@
 -- The number of a header is read exactly where it is written so.
 use Rattle.std.proofs.Common.{◌≡◌, ℕ, zero, suc, ◌+◌, ◌-◌, ◌^◌, ◌<◌, ◌≤◌, Bool, true, false, cond, eqb, leb, ltb, ◌&&◌, List, [], ◌∷◌, ◌++◌, length, drop}
-use Rattle.std.proofs.Common.{get_or, replicate, Option, Some, None, refl, sym, ap, ◌∙◌, arith, length-append, lit<}
+use Rattle.std.proofs.Common.{replicate, Option, Some, None, refl, sym, ap, ◌∙◌, arith, length-append, lit<}
 use Rattle.std.specs.Prelude.{decimal, option_and_then, nat_eq, IfSome}
-use Rattle.std.specs.List.{list_all, starts_with}
+use Rattle.std.specs.List.{starts_with}
 use Rattle.std.proofs.lemmas.Bool.{false≢true}
 use Rattle.std.proofs.lemmas.Bool.Decides.{nat_tests, Decides-eqb}
 use Rattle.std.proofs.lemmas.List.{length-replicate}
 use Rattle.std.proofs.lemmas.Slice.Eq.{starts_is}
-use Rattle.gs_bytes.specs.Numbers.{is_digit, is_decimal, number_from, number_of, decimal_up_to}
-use Rattle.gs_bytes.proofs.Decimals.{decimal_digits, decimal_is_decimal, decimal_is_printed, decimal_up_to-decimal}
+use Rattle.gs_bytes.specs.Numbers.{is_decimal, number_of, decimal_up_to}
+use Rattle.gs_bytes.proofs.Decimals.{decimal_is_decimal, decimal_is_printed, decimal_up_to-decimal}
 use Rattle.gs_sdp.specs.Lines.{behind}
 use Rattle.gs_rtsp.specs.declared.field.Field.{Field}
 use Rattle.gs_rtsp.specs.declared.field.Field.TheVariants.{Sequence, ClientVersion, Session, Port, PingPayload, ConnectData, ContentLength}

@@ -2,7 +2,9 @@
 
 ghost use Rattle.std.specs.Prelude.{◌≡◌, ℕ, ◌+◌, ◌^◌, ◌<◌, ◌++◌, replicate, IfOk, IfSome, OnOk, Some};
 ghost use Rattle.std.specs.List.{before_first, position};
-ghost use Rattle.gs_rtsp.specs.Fields.{field_name, field_prefix, least_digits as least_digits_of, field_text, field_number, padded, padded_number as padded_number_of, without_zeros as without_zeros_of, counted as counted_of, header_number as header_number_of, is_semicolon, is_number};
+ghost use Rattle.gs_rtsp.specs.Fields.{field_name, field_prefix, least_digits as least_digits_of, field_text, field_number, padded};
+ghost use Rattle.gs_rtsp.specs.Fields.{padded_number as padded_number_of, without_zeros as without_zeros_of, counted as counted_of};
+ghost use Rattle.gs_rtsp.specs.Fields.{header_number as header_number_of, is_semicolon, is_number};
 
 use gs_bytes::{OutOfMemory, Text, parse_number, trim};
 use gs_rtsp_text::Headers;

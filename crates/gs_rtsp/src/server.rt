@@ -21,7 +21,8 @@ pub(crate) enum Phase {
     Playing(Settings),
 }
 
-/// The host's end of a session's set-up: it answers the requests of one client.
+/// The host's end of a session's set-up (RFC 2326, sections 10.1 to 10.5): it answers the requests
+/// of one client. Which it accepts depends on those before (appendix A.2).
 #[derive(Debug, Drop)]
 pub struct Server {
     pub(crate) offer: Settings,
@@ -36,7 +37,7 @@ pub struct Server {
 ghost use Rattle.std.specs.Prelude.{◌≤◌};
 
 impl Server {
-    ghost use Rattle.std.specs.Prelude.{◌≡◌, ◌≢◌, ℕ, List, [], ◌∷◌, ◌&&◌, Bool, IsTrue, IfOk, OnOk, OnErr};
+    ghost use Rattle.std.specs.Prelude.{◌≡◌, ◌≢◌, ℕ, List, [], ◌∷◌, ◌&&◌, IsTrue, IfOk, OnOk, OnErr};
     ghost use Rattle.gs_rtp.specs.declared.settings.Settings.{Settings};
     ghost use Rattle.gs_rtsp_text.specs.declared.message.Method.TheVariants.{Setup as method_setup, Announce as method_announce, Play as method_play};
     ghost use Rattle.gs_rtsp_text.specs.declared.message.Request.{Request};

@@ -12,7 +12,8 @@ use std::alloc::Global;
 /// The host's RTSP port, above the base of its ports.
 const RTSP_PORT: u16 = 21;
 
-/// The client's end of a session's set-up: it asks seven requests, one after the other.
+/// The client's end of a session's set-up (RFC 2326, sections 10.1 to 10.5): it asks seven
+/// requests, one after the other (appendix A.1).
 #[derive(Debug, Drop)]
 pub struct Setup {
     /// What is wanted, with what the replies told.
@@ -30,7 +31,7 @@ pub struct Setup {
 ghost use Rattle.std.specs.Prelude.{◌≤◌};
 
 impl Setup {
-    ghost use Rattle.std.specs.Prelude.{◌≡◌, ◌+◌, List, [], Result, Err, None, IfOk, OnOk, OnErr, is_some, nat_lt};
+    ghost use Rattle.std.specs.Prelude.{◌≡◌, ◌+◌, List, [], None, IfOk, OnOk, OnErr, is_some, nat_lt};
     ghost use Rattle.std.specs.Option.{option_copied};
     ghost use Rattle.gs_bytes.specs.declared.addr.Addr.{Addr};
     ghost use Rattle.gs_rtp.specs.declared.settings.Settings.{Settings};

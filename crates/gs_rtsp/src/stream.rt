@@ -1,13 +1,13 @@
 //! The streams of a session.
 
-ghost use Rattle.std.specs.Prelude.{◌≡◌, ◌≤◌, drop};
+ghost use Rattle.std.specs.Prelude.{◌≡◌, ◌≤◌};
 ghost use Rattle.gs_rtsp.specs.Fields.{port_of, data_field as data_field_of};
 ghost use Rattle.gs_rtsp.specs.Reply.{stream_word, stream_at, stream_in};
 ghost use Rattle.gs_rtsp.specs.Asking.{stream_target};
 
 use crate::field::Field;
 
-/// A stream that is set up.
+/// A stream, which a SETUP of its own sets up (RFC 2326, section 10.4).
 #[derive(Clone, Copy, Debug, PartialEq, Eq)]
 pub enum Stream {
     Audio,

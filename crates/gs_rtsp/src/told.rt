@@ -2,7 +2,8 @@
 
 ghost use Rattle.std.specs.Prelude.{◌≡◌, ◌≤◌, ◌&&◌, Some, None, true, false, is_some, unwrap_or, MatchOption, MatchResult};
 ghost use Rattle.gs_rtp.specs.Stream.{numbers_of};
-ghost use Rattle.gs_rtsp.specs.Asking.{duration_in as duration_of, audio_in as audio_of, session_in, is_session as is_session_of, names_stream, is_good, fault_of, with_told};
+ghost use Rattle.gs_rtsp.specs.Asking.{duration_in as duration_of, audio_in as audio_of, session_in, is_session as is_session_of};
+ghost use Rattle.gs_rtsp.specs.Asking.{names_stream, is_good, fault_of, with_told};
 
 use crate::field::{Field, has_number, header_number};
 use crate::question::Question;

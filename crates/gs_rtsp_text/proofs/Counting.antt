@@ -13,6 +13,7 @@ use Rattle.gs_rtsp_text.specs.declared.stop.Stop.{Stop}
 use Rattle.gs_rtsp_text.specs.Bytes.{crlf}
 use Rattle.gs_rtsp_text.specs.Lines.{body_length, content_lengths, cseq_count, is_content_length, is_cseq, length_by, most_body}
 use Rattle.gs_rtsp_text.specs.Message.{count_test}
+use Rattle.gs_rtsp_text.specs.Reading.{HeadFields, fields}
 use Rattle.gs_rtsp_text.specs.Reading.{◌>>=◌, HasRest, IsRestOf, begins_with_cr, empty_line_at, header_at, length_if_right, literal_at, rest_of_head}
 use Rattle.gs_rtsp_text.proofs.Rest.{rest_at_empty_line, rest_at_header, rest_at_stop}
 
@@ -91,8 +92,8 @@ counted_size kind sequences given size bytes rest c =
     ∙ ap (λ (o : Option ℕ). cond (count_test kind (cseq_count c.headers)) o None) c.size_is
 
 -- the head behind the empty line
-abbrev pub behind_line : List Header → ℕ → Result (List ℕ) Stop → Result ((List Header × ℕ) × List ℕ) Stop
-behind_line hs n read = read >>= λ rest. Ok ((hs, n), rest)
+abbrev pub behind_line : List Header → ℕ → Result (List ℕ) Stop → Result (HeadFields × List ℕ) Stop
+behind_line hs n read = read >>= λ rest. Ok (fields hs n, rest)
 
 -- what the rest of the head gives is what its empty line gives
 pub counted_rest : (kind : Kind) (sequences : ℕ) (given : Bool) (size : Option ℕ) (bytes rest : List ℕ) (o : Option ℕ)
@@ -112,7 +113,7 @@ counted_stop kind sequences given size bytes rest stop c line e = sym c.so_far �
 
 -- behind these headers reading goes on, whatever it gives
 abbrev pub GoesOn : List Header → List ℕ → List ℕ → Type 0
-GoesOn headers bytes rest = (may_have : ℕ → Bool) (x : (List Header × ℕ) × List ℕ) → rest_of_head may_have [] bytes ≡ Ok x
+GoesOn headers bytes rest = (may_have : ℕ → Bool) (x : HeadFields × List ℕ) → rest_of_head may_have [] bytes ≡ Ok x
     → rest_of_head may_have headers rest ≡ Ok x
 
 pub goes_on : (headers : List Header) (bytes rest : List ℕ) (h : Header) (behind : List ℕ) → GoesOn headers bytes rest → begins_with_cr rest ≡ false
@@ -127,12 +128,12 @@ never_stops headers bytes rest stop g whole line e =
     let err = rest_at_stop whole.0 headers rest stop line e in
     absurd cc
 
-headers_of_line : (hs : List Header) (o : Option ℕ) (s : List ℕ) (x : (List Header × ℕ) × List ℕ) → empty_line_at hs o s ≡ Ok x → hs ≡ x.0.0
+headers_of_line : (hs : List Header) (o : Option ℕ) (s : List ℕ) (x : HeadFields × List ℕ) → empty_line_at hs o s ≡ Ok x → hs ≡ x.0.headers
 headers_of_line hs None s x e = absurd cc
 headers_of_line hs (Some n) s x e = by_literal (literal_at crlf s) e
   where
-    by_literal : (r : Result (List ℕ) Stop) → (r >>= λ rest. Ok ((hs, n), rest)) ≡ Ok x → hs ≡ x.0.0
-    by_literal (Ok rest) e = let same : ((hs, n), rest) ≡ x = cc in ap (λ (y : (List Header × ℕ) × List ℕ). y.0.0) same
+    by_literal : (r : Result (List ℕ) Stop) → (r >>= λ rest. Ok (fields hs n, rest)) ≡ Ok x → hs ≡ x.0.headers
+    by_literal (Ok rest) e = let same : (fields hs n, rest) ≡ x = cc in ap (λ (y : HeadFields × List ℕ). y.0.headers) same
     by_literal (Err stop) e = absurd cc
 
 -- the headers in front of the empty line are those of the head

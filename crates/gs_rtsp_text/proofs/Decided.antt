@@ -14,6 +14,7 @@ use Rattle.gs_rtsp_text.specs.Bytes.{crlf}
 use Rattle.gs_rtsp_text.specs.Lines.{AreHeaderLines, body_length}
 use Rattle.gs_rtsp_text.specs.Message.{Message, Whole, BadText, More, AreLines, IsHead, HasHead, CanBegin, GoesWrongAt, IsBadPlace, IsMessage, IsWhole}
 use Rattle.gs_rtsp_text.specs.Message.{IsAnswer, most_head}
+use Rattle.gs_rtsp_text.specs.Reading.{Head}
 use Rattle.gs_rtsp_text.specs.Reading.{answer_by, place_answer, head_by}
 use Rattle.gs_rtsp_text.specs.Laws.{HasOneAnswer, Stays, IsSameInPieces}
 use Rattle.gs_rtsp_text.proofs.Parts.{IsCode, Meets, append-cancel}
@@ -211,49 +212,49 @@ module _ {S : Type 0} (IsFirstLine : List ℕ → S → Type 0) (may_have : ℕ 
   not_bad_with_head bytes h limited place (inr b) = b.1.endless limited
 
   -- what was read of the front stands in front of all bytes
-  head_parts : (bytes : List ℕ) (x : S × (List Header × ℕ)) (rest : List ℕ) (h : HeadTaken IsFirstLine may_have code (take most_head bytes) x rest)
+  head_parts : (bytes : List ℕ) (x : Head S) (rest : List ℕ) (h : HeadTaken IsFirstLine may_have code (take most_head bytes) x rest)
       → bytes ≡ h.head ++ (rest ++ drop most_head bytes)
   head_parts bytes x rest h = sym (limit_parts bytes) ∙ ap (λ (u : List ℕ). u ++ drop most_head bytes) h.parts
       ∙ append_assoc h.head rest (drop most_head bytes)
 
-  head_place : (bytes : List ℕ) (x : S × (List Header × ℕ)) (rest : List ℕ) (h : HeadTaken IsFirstLine may_have code (take most_head bytes) x rest)
+  head_place : (bytes : List ℕ) (x : Head S) (rest : List ℕ) (h : HeadTaken IsFirstLine may_have code (take most_head bytes) x rest)
       → length (take most_head bytes) - length rest ≡ length h.head
   head_place bytes x rest h = omega (arith, ap length h.parts, length-append h.head rest)
 
-  message_right : (bytes : List ℕ) (x : S × (List Header × ℕ)) (rest : List ℕ) (h : HeadTaken IsFirstLine may_have code (take most_head bytes) x rest)
-      (place : ℕ) → place ≡ length h.head → place + x.1.1 ≤ length bytes
-      → IsMessage IsFirstLine may_have (take (place + x.1.1) bytes) (made x.0 x.1.0 (take x.1.1 (drop place bytes)))
+  message_right : (bytes : List ℕ) (x : Head S) (rest : List ℕ) (h : HeadTaken IsFirstLine may_have code (take most_head bytes) x rest)
+      (place : ℕ) → place ≡ length h.head → place + x.size ≤ length bytes
+      → IsMessage IsFirstLine may_have (take (place + x.size) bytes) (made x.start x.headers (take x.size (drop place bytes)))
   message_right bytes x rest h place e le =
       let parts = head_parts bytes x rest h in
       let front : take place bytes ≡ h.head = ap (take place) parts ∙ take_at h.head (rest ++ drop most_head bytes) place (sym e) in
-      let size : length (take x.1.1 (drop place bytes)) ≡ x.1.1 = omega (arith, length-take x.1.1 (drop place bytes), length-drop place bytes) in
+      let size : length (take x.size (drop place bytes)) ≡ x.size = omega (arith, length-take x.size (drop place bytes), length-drop place bytes) in
       record {
         head = h.head;
-        is_head = subst (IsHead IsFirstLine may_have h.head x.0 x.1.0) (sym size) h.is_head;
+        is_head = subst (IsHead IsFirstLine may_have h.head x.start x.headers) (sym size) h.is_head;
         limit = omega (arith, (limit_length bytes).0, ap length h.parts, length-append h.head rest);
-        parts = take-add place x.1.1 bytes ∙ ap (λ (u : List ℕ). u ++ take x.1.1 (drop place bytes)) front;
+        parts = take-add place x.size bytes ∙ ap (λ (u : List ℕ). u ++ take x.size (drop place bytes)) front;
       }
 
-  head_right : (bytes : List ℕ) (x : S × (List Header × ℕ)) (rest : List ℕ) → HeadTaken IsFirstLine may_have code (take most_head bytes) x rest → (t : Bool)
-      → leb (length (take most_head bytes) - length rest + x.1.1) (length bytes) ≡ t
-      → IsAnswer IsFirstLine may_have bytes (cond t (Whole (made x.0 x.1.0 (take x.1.1 (drop (length (take most_head bytes) - length rest) bytes)))
-      (length (take most_head bytes) - length rest + x.1.1)) More)
+  head_right : (bytes : List ℕ) (x : Head S) (rest : List ℕ) → HeadTaken IsFirstLine may_have code (take most_head bytes) x rest → (t : Bool)
+      → leb (length (take most_head bytes) - length rest + x.size) (length bytes) ≡ t
+      → IsAnswer IsFirstLine may_have bytes (cond t (Whole (made x.start x.headers (take x.size (drop (length (take most_head bytes) - length rest) bytes)))
+      (length (take most_head bytes) - length rest + x.size)) More)
   head_right bytes x rest h true e =
       let place = length (take most_head bytes) - length rest in
-      let le : place + x.1.1 ≤ length bytes = grind (arith, nat_tests) in
+      let le : place + x.size ≤ length bytes = grind (arith, nat_tests) in
       (le, message_right bytes x rest h place (head_place bytes x rest h) le)
   head_right bytes x rest h false e = record {
     not_whole = λ m used w. not_whole m used w;
-    not_bad = not_bad_with_head bytes (h.head, rest ++ drop most_head bytes, x.0, x.1.0, x.1.1, h.is_head, head_parts bytes x rest h)
-        (h.head, rest, x.0, x.1.0, x.1.1, h.is_head, h.parts);
+    not_bad = not_bad_with_head bytes (h.head, rest ++ drop most_head bytes, x.start, x.headers, x.size, h.is_head, head_parts bytes x rest h)
+        (h.head, rest, x.start, x.headers, x.size, h.is_head, h.parts);
   }
     where
       not_whole : (m : Message S) (used : ℕ) → IsWhole IsFirstLine may_have bytes m used → ⊥
       not_whole m used w =
-          let s = head_same h.head w.1.head (rest ++ drop most_head bytes) (m.body ++ drop used bytes) x.0 m.start x.1.0 m.headers x.1.1
+          let s = head_same h.head w.1.head (rest ++ drop most_head bytes) (m.body ++ drop used bytes) x.start m.start x.headers m.headers x.size
           (length m.body) h.is_head w.1.is_head (sym (head_parts bytes x rest h) ∙ whole_head bytes m used w) in
           let place = head_place bytes x rest h in
-          let beyond : length bytes < length (take most_head bytes) - length rest + x.1.1 = grind (arith, nat_tests) in
+          let beyond : length bytes < length (take most_head bytes) - length rest + x.size = grind (arith, nat_tests) in
           omega (arith, beyond, place, whole_used bytes m used w, w.0, ap length s.head, s.body)
 
   bad_place : (bytes : List ℕ) (left : ℕ) (m : HeadStops IsFirstLine may_have code (take most_head bytes) left)
@@ -296,9 +297,9 @@ module _ {S : Type 0} (IsFirstLine : List ℕ → S → Type 0) (may_have : ℕ 
       not_bad place (inl b) = wrong_first bytes place most_head b m.begins b.limit
       not_bad place (inr b) = let short : length bytes < most_head = grind (arith, nat_tests) in omega (arith, b.1.long)
 
-  pub answer_right : (bytes : List ℕ) (r : Result ((S × (List Header × ℕ)) × List ℕ) Stop) → MeetsHead IsFirstLine may_have code (take most_head bytes) r
+  pub answer_right : (bytes : List ℕ) (r : Result (Head S × List ℕ) Stop) → MeetsHead IsFirstLine may_have code (take most_head bytes) r
       → IsAnswer IsFirstLine may_have bytes (answer_by bytes r)
-  answer_right bytes (Ok x) m = head_right bytes x.0 x.1 m (leb (length (take most_head bytes) - length x.1 + x.0.1.1) (length bytes)) refl
+  answer_right bytes (Ok x) m = head_right bytes x.0 x.1 m (leb (length (take most_head bytes) - length x.1 + x.0.size) (length bytes)) refl
   answer_right bytes (Err stop_more) m = open_right bytes m (leb most_head (length bytes)) refl
   answer_right bytes (Err (Bad left)) m = bad_right bytes left m
 
@@ -307,7 +308,7 @@ module _ {S : Type 0} (IsFirstLine : List ℕ → S → Type 0) (may_have : ℕ 
   left_within : (s : List ℕ) (left : ℕ) → HeadStops IsFirstLine may_have code s left → left ≤ length s
   left_within s left m = omega (arith, ap length m.parts, length-append m.front (m.byte ∷ m.rest), m.left_is)
 
-  rest_within : (s : List ℕ) (x : S × (List Header × ℕ)) (rest : List ℕ) → HeadTaken IsFirstLine may_have code s x rest → length rest ≤ length s
+  rest_within : (s : List ℕ) (x : Head S) (rest : List ℕ) → HeadTaken IsFirstLine may_have code s x rest → length rest ≤ length s
   rest_within s x rest h = omega (arith, ap length h.parts, length-append h.head rest)
 
   module _ (first : List ℕ → Result (S × List ℕ) Stop) (meets : (s : List ℕ) → Meets IsFirstLine s (first s)) where

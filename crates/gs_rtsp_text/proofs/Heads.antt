@@ -8,6 +8,7 @@ use Rattle.gs_rtsp_text.specs.declared.stop.Stop.TheVariants.{More, Bad}
 use Rattle.gs_rtsp_text.specs.Bytes.{crlf}
 use Rattle.gs_rtsp_text.specs.Lines.{AreHeaderLines, cseq_count, body_length}
 use Rattle.gs_rtsp_text.specs.Message.{AreLines, IsHead, HasHead, CanBegin}
+use Rattle.gs_rtsp_text.specs.Reading.{Head, HeadFields, fields, with_start}
 use Rattle.gs_rtsp_text.specs.Reading.{◌>>=◌, rest_of_head, head_by}
 use Rattle.gs_rtsp_text.proofs.Parts.{Opens, StopsAt, Takes, Meets, IsCode, inside, stopped, append-cancel}
 use Rattle.gs_rtsp_text.proofs.Rest.{IsRest, Goes, MeetsRest, rest_meets}
@@ -16,9 +17,9 @@ module _ {S : Type 0} (IsFirstLine : List ℕ → S → Type 0) (may_have : ℕ 
   abbrev Begins : List ℕ → Type 0
   Begins s = AreLines IsFirstLine may_have s ⊎ HasHead IsFirstLine may_have s
 
-  pub record HeadTaken (s : List ℕ) (x : S × (List Header × ℕ)) (rest : List ℕ) : Type 0 where
+  pub record HeadTaken (s : List ℕ) (x : Head S) (rest : List ℕ) : Type 0 where
     pub head : List ℕ
-    pub is_head : IsHead IsFirstLine may_have head x.0 x.1.0 x.1.1
+    pub is_head : IsHead IsFirstLine may_have head x.start x.headers x.size
     pub parts : s ≡ head ++ rest
 
   pub record HeadOpens (s : List ℕ) : Type 0 where
@@ -34,7 +35,7 @@ module _ {S : Type 0} (IsFirstLine : List ℕ → S → Type 0) (may_have : ℕ 
     pub begins : CanBegin IsFirstLine may_have front
     pub never : CanBegin IsFirstLine may_have (front ++ byte ∷ []) → ⊥
 
-  abbrev pub MeetsHead : List ℕ → Result ((S × (List Header × ℕ)) × List ℕ) Stop → Type 0
+  abbrev pub MeetsHead : List ℕ → Result (Head S × List ℕ) Stop → Type 0
   MeetsHead s (Ok x) = HeadTaken s x.0 x.1
   MeetsHead s (Err More) = HeadOpens s
   MeetsHead s (Err (Bad left)) = HeadStops s left
@@ -43,10 +44,10 @@ module _ {S : Type 0} (IsFirstLine : List ℕ → S → Type 0) (may_have : ℕ 
   right_parts true o n e = (refl, e)
   right_parts false o n e = absurd cc
 
-  head_from_rest : (line : List ℕ) (start : S) → IsFirstLine line start → (w : List ℕ) (x : List Header × ℕ) → IsRest may_have [] w x
-      → IsHead IsFirstLine may_have (line ++ w) start x.0 x.1
+  head_from_rest : (line : List ℕ) (start : S) → IsFirstLine line start → (w : List ℕ) (x : HeadFields) → IsRest may_have [] w x
+      → IsHead IsFirstLine may_have (line ++ w) start x.headers x.size
   head_from_rest line start l w x r =
-      let right = right_parts (may_have (cseq_count x.0)) (body_length x.0) x.1 r.right in
+      let right = right_parts (may_have (cseq_count x.headers)) (body_length x.headers) x.size r.right in
       record {
         first = line;
         lines = r.lines;
@@ -58,7 +59,7 @@ module _ {S : Type 0} (IsFirstLine : List ℕ → S → Type 0) (may_have : ℕ 
       }
 
   rest_from_head : (head : List ℕ) (start : S) (hs : List Header) (n : ℕ) (h : IsHead IsFirstLine may_have head start hs n)
-      → IsRest may_have [] (h.lines ++ crlf) (hs, n)
+      → IsRest may_have [] (h.lines ++ crlf) (fields hs n)
   rest_from_head head start hs n h = record {
     new = hs;
     lines = h.lines;
@@ -74,8 +75,8 @@ module _ {S : Type 0} (IsFirstLine : List ℕ → S → Type 0) (may_have : ℕ 
     line ++ g.0,
     g.1,
     start,
-    g.2.0,
-    g.2.1,
+    g.2.headers,
+    g.2.size,
     head_from_rest line start l g.0 g.2 g.3,
     ap (λ (u : List ℕ). line ++ u) g.4 ∙ sym (append_assoc line g.0 g.1),
   )
@@ -96,10 +97,10 @@ module _ {S : Type 0} (IsFirstLine : List ℕ → S → Type 0) (may_have : ℕ 
       inl (g.3, subst (λ (u : List ℕ). AreHeaderLines u g.3) (sym rest-is) g.5)
   begins_to_goes line start l s (inr g) =
       let p = head_parts line start l s g.1 g.0 g.2 g.3 g.4 g.5 g.6 in
-      inr (g.5.lines ++ crlf, g.1, (g.3, g.4), rest_from_head g.0 g.2 g.3 g.4 g.5, p.2)
+      inr (g.5.lines ++ crlf, g.1, fields g.3 g.4, rest_from_head g.0 g.2 g.3 g.4 g.5, p.2)
 
-  behind_first : (s : List ℕ) (start : S) (rest : List ℕ) → Takes IsFirstLine s start rest → (r : Result ((List Header × ℕ) × List ℕ) Stop)
-      → MeetsRest may_have [] rest r → MeetsHead s (r >>= λ x. Ok ((start, x.0), x.1))
+  behind_first : (s : List ℕ) (start : S) (rest : List ℕ) → Takes IsFirstLine s start rest → (r : Result (HeadFields × List ℕ) Stop)
+      → MeetsRest may_have [] rest r → MeetsHead s (r >>= λ x. Ok (with_start start x))
   behind_first s start rest t (Ok x) m = record {
     head = t.taken ++ m.taken;
     is_head = head_from_rest t.taken start t.word m.taken x.0 m.word;
@@ -113,7 +114,7 @@ module _ {S : Type 0} (IsFirstLine : List ℕ → S → Type 0) (may_have : ℕ 
     );
     unended = λ g.
         let p = head_parts t.taken start t.word rest g.1 g.0 g.2 g.3 g.4 g.5 (sym t.parts ∙ g.6) in
-        m.unended (g.5.lines ++ crlf) g.1 (g.3, g.4) (rest_from_head g.0 g.2 g.3 g.4 g.5) p.2;
+        m.unended (g.5.lines ++ crlf) g.1 (fields g.3 g.4) (rest_from_head g.0 g.2 g.3 g.4 g.5) p.2;
   }
   behind_first s start rest t (Err (Bad left)) m = record {
     front = t.taken ++ m.front;
@@ -155,7 +156,7 @@ module _ {S : Type 0} (IsFirstLine : List ℕ → S → Type 0) (may_have : ℕ 
           (g.6 ∙ ap (λ (u : List ℕ). u ++ g.1) (g.5.parts ∙ append_assoc g.5.first g.5.lines crlf) ∙ append_assoc g.5.first (g.5.lines ++ crlf) g.1)
 
   first_arm : (s : List ℕ) (r : Result (S × List ℕ) Stop) → Meets IsFirstLine s r
-      → MeetsHead s (r >>= λ start. rest_of_head may_have [] start.1 >>= λ x. Ok ((start.0, x.0), x.1))
+      → MeetsHead s (r >>= λ start. rest_of_head may_have [] start.1 >>= λ x. Ok (with_start start.0 x))
   first_arm s (Ok x) m = behind_first s x.0 x.1 m (rest_of_head may_have [] x.1) (rest_meets may_have [] x.1)
   first_arm s (Err More) m = open_first s m
   first_arm s (Err (Bad left)) m = bad_first s left m

@@ -9,6 +9,7 @@ use Rattle.gs_rtsp_text.specs.declared.stop.Stop.{Stop}
 use Rattle.gs_rtsp_text.specs.declared.stop.Stop.TheVariants.{More, Bad}
 use Rattle.gs_rtsp_text.specs.Bytes.{crlf, is_name_byte}
 use Rattle.gs_rtsp_text.specs.Lines.{IsHeaderLine, AreHeaderLines}
+use Rattle.gs_rtsp_text.specs.Reading.{HeadFields, fields}
 use Rattle.gs_rtsp_text.specs.Reading.{◌>>=◌, header_at, length_if_right, empty_line_at, begins_with_cr, lines_at, rest_of_head}
 use Rattle.gs_rtsp_text.proofs.Parts.{Opens, StopsAt, Takes, Meets, inside, stopped, append-cancel}
 use Rattle.gs_rtsp_text.proofs.Tokens.{Exactly, literal_meets, literal_as, exactly_code}
@@ -16,17 +17,17 @@ use Rattle.gs_rtsp_text.proofs.HeaderLines.{header_meets, header_code, header_fi
 
 module _ (may_have : ℕ → Bool) where
   -- the rest of a head behind some headers, and what the whole head then has
-  pub record IsRest (hs : List Header) (w : List ℕ) (x : List Header × ℕ) : Type 0 where
+  pub record IsRest (hs : List Header) (w : List ℕ) (x : HeadFields) : Type 0 where
     pub new : List Header
     pub lines : List ℕ
     pub header_lines : AreHeaderLines lines new
     pub parts : w ≡ lines ++ crlf
-    pub headers : x.0 ≡ hs ++ new
-    pub right : length_if_right may_have x.0 ≡ Some x.1
+    pub headers : x.headers ≡ hs ++ new
+    pub right : length_if_right may_have x.headers ≡ Some x.size
 
   -- the bytes are lines, or begin with the rest of a head
   abbrev pub Goes : List Header → List ℕ → Type 0
-  Goes hs s = ((new : List Header) × AreHeaderLines s new) ⊎ ((w rest : List ℕ) × (x : List Header × ℕ) × IsRest hs w x × (s ≡ w ++ rest))
+  Goes hs s = ((new : List Header) × AreHeaderLines s new) ⊎ ((w rest : List ℕ) × (x : HeadFields) × IsRest hs w x × (s ≡ w ++ rest))
 
   -- reading stops at a byte
   pub record RestStops (hs : List Header) (s : List ℕ) (left : ℕ) : Type 0 where
@@ -42,9 +43,9 @@ module _ (may_have : ℕ → Bool) where
   pub record RestOpens (hs : List Header) (s : List ℕ) : Type 0 where
     pub more : List ℕ
     pub begins : Goes hs (s ++ more)
-    pub unended : (w v : List ℕ) (x : List Header × ℕ) → IsRest hs w x → s ≡ w ++ v → ⊥
+    pub unended : (w v : List ℕ) (x : HeadFields) → IsRest hs w x → s ≡ w ++ v → ⊥
 
-  abbrev pub MeetsRest : List Header → List ℕ → Result ((List Header × ℕ) × List ℕ) Stop → Type 0
+  abbrev pub MeetsRest : List Header → List ℕ → Result (HeadFields × List ℕ) Stop → Type 0
   MeetsRest hs s (Ok x) = Takes (IsRest hs) s x.0 x.1
   MeetsRest hs s (Err More) = RestOpens hs s
   MeetsRest hs s (Err (Bad left)) = RestStops hs s left
@@ -64,13 +65,13 @@ module _ (may_have : ℕ → Bool) where
   abbrev EndsHere : List Header → List ℕ → Type 0
   EndsHere hs s = (v : List ℕ) × (s ≡ crlf ++ v) × (n : ℕ) × (length_if_right may_have hs ≡ Some n)
 
-  rest_with_cr : (hs : List Header) (q w rest : List ℕ) (x : List Header × ℕ) (new : List Header) (lines : List ℕ) → AreHeaderLines lines new
-      → w ≡ lines ++ crlf → x.0 ≡ hs ++ new → length_if_right may_have x.0 ≡ Some x.1 → 13 ∷ q ≡ w ++ rest → EndsHere hs (13 ∷ q)
+  rest_with_cr : (hs : List Header) (q w rest : List ℕ) (x : HeadFields) (new : List Header) (lines : List ℕ) → AreHeaderLines lines new
+      → w ≡ lines ++ crlf → x.headers ≡ hs ++ new → length_if_right may_have x.headers ≡ Some x.size → 13 ∷ q ≡ w ++ rest → EndsHere hs (13 ∷ q)
   rest_with_cr hs q w rest x [] lines l p h r e = (
     rest,
     e ∙ ap (λ (u : List ℕ). u ++ rest) p
         ∙ ap (λ (u : List ℕ). u ++ crlf ++ rest) l,
-    x.1,
+    x.size,
     ap (length_if_right may_have) (sym (append-nil hs) ∙ sym h) ∙ r,
   )
   rest_with_cr hs q w rest x (i ∷ new) lines l p h r e = absurd (line_no_cr l.0 (l.1 ++ crlf ++ rest) q i l.2
@@ -84,10 +85,10 @@ module _ (may_have : ℕ → Bool) where
 
   -- ---- the empty line
 
-  ends_now : (hs : List Header) (n : ℕ) → length_if_right may_have hs ≡ Some n → IsRest hs crlf (hs, n)
+  ends_now : (hs : List Header) (n : ℕ) → length_if_right may_have hs ≡ Some n → IsRest hs crlf (fields hs n)
   ends_now hs n r = record { new = []; lines = []; header_lines = refl; parts = refl; headers = sym (append-nil hs); right = r }
 
-  crlf_in : (w : List ℕ) (x : List Header × ℕ) (hs : List Header) → IsRest hs w x → 2 ≤ length w
+  crlf_in : (w : List ℕ) (x : HeadFields) (hs : List Header) → IsRest hs w x → 2 ≤ length w
   crlf_in w x hs r = omega (arith, ap length r.parts, length-append r.lines crlf)
 
   -- the bytes begin with CR
@@ -110,12 +111,12 @@ module _ (may_have : ℕ → Bool) where
   front_cr q [] byte rest v e = (v, ap (λ (c : ℕ). c ∷ v) cc)
   front_cr q (c ∷ front) byte rest v e = (front ++ byte ∷ v, ap (λ (d : ℕ). d ∷ (front ++ byte ∷ v)) cc)
 
-  empty_meets : (hs : List Header) (n : ℕ) (q : List ℕ) → length_if_right may_have hs ≡ Some n → (r : Result ((List Header × ℕ) × List ℕ) Stop)
-      → Meets (Exactly crlf (hs, n)) (13 ∷ q) r → MeetsRest hs (13 ∷ q) r
+  empty_meets : (hs : List Header) (n : ℕ) (q : List ℕ) → length_if_right may_have hs ≡ Some n → (r : Result (HeadFields × List ℕ) Stop)
+      → Meets (Exactly crlf (fields hs n)) (13 ∷ q) r → MeetsRest hs (13 ∷ q) r
   empty_meets hs n q right (Ok x) m = record { taken = m.taken; word = rw (m.word.word, m.word.value_is) (ends_now hs n right); parts = m.parts }
   empty_meets hs n q right (Err More) m = record {
     more = m.next ∷ m.more;
-    begins = inr (crlf, [], (hs, n), ends_now hs n right, m.word.word);
+    begins = inr (crlf, [], fields hs n, ends_now hs n right, m.word.word);
     unended = λ w v x r e. absurd (omega (
       arith,
       ap length e,
@@ -132,20 +133,21 @@ module _ (may_have : ℕ → Bool) where
     parts = m.parts;
     left_is = m.left_is;
     more = m.begins.next ∷ m.begins.more;
-    begins = inr (crlf, [], (hs, n), ends_now hs n right, m.begins.word.word);
+    begins = inr (crlf, [], fields hs n, ends_now hs n right, m.begins.word.word);
     never = λ v g.
         let c = front_cr q m.front m.byte m.rest v m.parts in
         let e = goes_with_cr hs c.0 (subst (Goes hs) c.1 g) in
-        stopped (Exactly crlf (hs, n)) (exactly_code crlf (hs, n)) (13 ∷ q) left m v crlf e.0 (hs, n) (record { word = refl; value_is = refl }) (c.1 ∙ e.1);
+        let x = fields hs n in
+        stopped (Exactly crlf x) (exactly_code crlf x) (13 ∷ q) left m v crlf e.0 x (record { word = refl; value_is = refl }) (c.1 ∙ e.1);
   }
 
   right_meets : (hs : List Header) (q : List ℕ) (o : Option ℕ) → length_if_right may_have hs ≡ o → MeetsRest hs (13 ∷ q) (empty_line_at hs o (13 ∷ q))
   right_meets hs q None e = wrong_here hs q e
-  right_meets hs q (Some n) e = empty_meets hs n q e (literal_as crlf (hs, n) (13 ∷ q)) (literal_meets crlf (hs, n) (13 ∷ q))
+  right_meets hs q (Some n) e = empty_meets hs n q e (literal_as crlf (fields hs n) (13 ∷ q)) (literal_meets crlf (fields hs n) (13 ∷ q))
 
   -- ---- a header line, and the rest behind it
 
-  rest_more : (hs : List Header) (line : List ℕ) (h : Header) → IsHeaderLine line h → (w : List ℕ) (x : List Header × ℕ) → IsRest (hs ++ h ∷ []) w x
+  rest_more : (hs : List Header) (line : List ℕ) (h : Header) → IsHeaderLine line h → (w : List ℕ) (x : HeadFields) → IsRest (hs ++ h ∷ []) w x
       → IsRest hs (line ++ w) x
   rest_more hs line h l w x r = record {
     new = h ∷ r.new;
@@ -176,8 +178,8 @@ module _ (may_have : ℕ → Bool) where
   line_no_crlf line s v h l e = line_no_cr line s (10 ∷ v) h l (sym e)
 
   rest_less : (hs : List Header) (line : List ℕ) (h : Header) → IsHeaderLine line h
-      → (s w v : List ℕ) (x : List Header × ℕ) (new : List Header) (lines : List ℕ) → AreHeaderLines lines new → w ≡ lines ++ crlf → x.0 ≡ hs ++ new
-      → length_if_right may_have x.0 ≡ Some x.1 → line ++ s ≡ w ++ v → (u : List ℕ) × IsRest (hs ++ h ∷ []) u x × (s ≡ u ++ v)
+      → (s w v : List ℕ) (x : HeadFields) (new : List Header) (lines : List ℕ) → AreHeaderLines lines new → w ≡ lines ++ crlf → x.headers ≡ hs ++ new
+      → length_if_right may_have x.headers ≡ Some x.size → line ++ s ≡ w ++ v → (u : List ℕ) × IsRest (hs ++ h ∷ []) u x × (s ≡ u ++ v)
   rest_less hs line h l s w v x [] lines ls p hd r e = absurd (line_no_crlf line s v h l
       (e ∙ ap (λ (u : List ℕ). u ++ v) (p ∙ ap (λ (u : List ℕ). u ++ crlf) ls)))
   rest_less hs line h l s w v x (i ∷ new) lines ls p hd r e =
@@ -206,7 +208,7 @@ module _ (may_have : ℕ → Bool) where
       let k = rest_less hs line h l s g.0 g.1 g.2 r.new r.lines r.header_lines r.parts r.headers r.right g.4 in
       inr (k.0, g.1, g.2, k.1, k.2)
 
-  behind_line : (hs : List Header) (s : List ℕ) (h : Header) (rest : List ℕ) → Takes IsHeaderLine s h rest → (r : Result ((List Header × ℕ) × List ℕ) Stop)
+  behind_line : (hs : List Header) (s : List ℕ) (h : Header) (rest : List ℕ) → Takes IsHeaderLine s h rest → (r : Result (HeadFields × List ℕ) Stop)
       → MeetsRest (hs ++ h ∷ []) rest r → MeetsRest hs s r
   behind_line hs s h rest t (Ok x) m = record {
     taken = t.taken ++ m.taken;
@@ -252,7 +254,7 @@ module _ (may_have : ℕ → Bool) where
     unended = λ w v x r e. unended w v x r.new r.lines r.header_lines r.parts e;
   }
     where
-      unended : (w v : List ℕ) (x : List Header × ℕ) (new : List Header) (lines : List ℕ) → AreHeaderLines lines new → w ≡ lines ++ crlf → s ≡ w ++ v → ⊥
+      unended : (w v : List ℕ) (x : HeadFields) (new : List Header) (lines : List ℕ) → AreHeaderLines lines new → w ≡ lines ++ crlf → s ≡ w ++ v → ⊥
       unended w v x [] lines l p e = no_cr_crlf s v f (e ∙ ap (λ (u : List ℕ). u ++ v) (p ∙ ap (λ (u : List ℕ). u ++ crlf) l))
       unended w v x (i ∷ new) lines l p e = inside IsHeaderLine header_code s l.0 ((l.1 ++ crlf) ++ v) i m l.2
           (e ∙ ap (λ (u : List ℕ). u ++ v) (p ∙ ap (λ (u : List ℕ). u ++ crlf) l.4 ∙ append_assoc l.0 l.1 crlf) ∙ append_assoc l.0 (l.1 ++ crlf) v)

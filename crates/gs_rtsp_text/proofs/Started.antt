@@ -10,6 +10,7 @@ use Rattle.gs_rtsp_text.specs.declared.message.TextError.TheVariants as errors
 use Rattle.gs_rtsp_text.specs.declared.read.Behind.{Behind}
 use Rattle.gs_rtsp_text.specs.declared.stop.Stop.{Stop}
 use Rattle.gs_rtsp_text.specs.Message.{Answer, Answers, Message, BadText, More, Whole, behind_message, most_head}
+use Rattle.gs_rtsp_text.specs.Reading.{HeadFields, with_start}
 use Rattle.gs_rtsp_text.specs.Reading.{◌>>=◌, answer_by, body_answer, head_behind, head_by, place_answer, rest_of_head, stop_place}
 
 -- the same answer, where it is known what the first line says
@@ -31,9 +32,9 @@ module _ {S : Type 0} (start : S) (bytes : List ℕ) where
       by_test true = refl
       by_test false = refl
 
-  started_by : (r : Result ((List Header × ℕ) × List ℕ) Stop) → answer_by bytes (r >>= λ x. Ok ((start, x.0), x.1))
-      ≡ started start (answer_by bytes (r >>= λ x. Ok ((tt, x.0), x.1)))
-  started_by (Ok x) = started_body (length (take most_head bytes) - length x.1) x.0.0 x.0.1
+  started_by : (r : Result (HeadFields × List ℕ) Stop) → answer_by bytes (r >>= λ x. Ok (with_start start x))
+      ≡ started start (answer_by bytes (r >>= λ x. Ok (with_start tt x)))
+  started_by (Ok x) = started_body (length (take most_head bytes) - length x.1) x.0.headers x.0.size
   started_by (Err stop) = started_place (stop_place bytes stop)
 
   -- the answer behind a first line that was read
@@ -41,7 +42,7 @@ module _ {S : Type 0} (start : S) (bytes : List ℕ) where
       → answer_by bytes (head_by first may_have front) ≡ started start (answer_by bytes (head_behind tt may_have rest))
   unfolding head_by
   answer_started first may_have front rest e =
-      ap (λ (r : Result (S × List ℕ) Stop). answer_by bytes (r >>= λ x. rest_of_head may_have [] x.1 >>= λ y. Ok ((x.0, y.0), y.1))) e
+      ap (λ (r : Result (S × List ℕ) Stop). answer_by bytes (r >>= λ x. rest_of_head may_have [] x.1 >>= λ y. Ok (with_start x.0 y))) e
       ∙ started_by (rest_of_head may_have [] rest)
 
 -- the answer where the first line stops
@@ -49,7 +50,7 @@ pub answer_stopped : {S : Type 0} (bytes : List ℕ) (first : List ℕ → Resul
     → first front ≡ Err stop → answer_by bytes (head_by first may_have front) ≡ place_answer (stop_place bytes stop)
 unfolding head_by
 answer_stopped {S} bytes first may_have front stop e =
-    ap (λ (r : Result (S × List ℕ) Stop). answer_by bytes (r >>= λ x. rest_of_head may_have [] x.1 >>= λ y. Ok ((x.0, y.0), y.1))) e
+    ap (λ (r : Result (S × List ℕ) Stop). answer_by bytes (r >>= λ x. rest_of_head may_have [] x.1 >>= λ y. Ok (with_start x.0 y))) e
 
 -- ---- what a reader returns
 

@@ -1,9 +1,8 @@
 -- How much is left of the bytes behind a word and behind the rest of a head.
 use Rattle.std.proofs.Common.{◌≡◌, ℕ, ◌≤◌, Bool, List, ◌∷◌, [], length, Result, Ok, Err, ap, subst, length-append, arith}
-use Rattle.gs_rtsp_text.specs.declared.header.Header.{Header}
 use Rattle.gs_rtsp_text.specs.declared.stop.Stop.{Stop}
 use Rattle.gs_rtsp_text.specs.declared.stop.Stop.TheVariants.{More, Bad}
-use Rattle.gs_rtsp_text.specs.Reading.{IsWithin, rest_of_head}
+use Rattle.gs_rtsp_text.specs.Reading.{HeadFields, IsWithin, rest_of_head}
 use Rattle.gs_rtsp_text.proofs.Parts.{StopsAt, Takes, Meets}
 use Rattle.gs_rtsp_text.proofs.Rest.{IsRest, MeetsRest, RestStops, rest_meets}
 
@@ -23,15 +22,15 @@ stop_within {A} L s (Bad left) r m e =
     let t : StopsAt L s left = subst P e m in
     omega (arith, t.left_is, ap length t.parts, length-append t.front (t.byte ∷ t.rest))
 
-pub lines_within : (may_have : ℕ → Bool) (s : List ℕ) (x : (List Header × ℕ) × List ℕ) → rest_of_head may_have [] s ≡ Ok x → length x.1 ≤ length s
+pub lines_within : (may_have : ℕ → Bool) (s : List ℕ) (x : HeadFields × List ℕ) → rest_of_head may_have [] s ≡ Ok x → length x.1 ≤ length s
 lines_within may_have s x e =
-    let P : Result ((List Header × ℕ) × List ℕ) Stop → Type 0 = MeetsRest may_have [] s in
+    let P : Result (HeadFields × List ℕ) Stop → Type 0 = MeetsRest may_have [] s in
     let t : Takes (IsRest may_have []) s x.0 x.1 = subst P e (rest_meets may_have [] s) in
     omega (arith, ap length t.parts, length-append t.taken x.1)
 
 pub lines_stop_within : (may_have : ℕ → Bool) (s : List ℕ) (stop : Stop) → rest_of_head may_have [] s ≡ Err stop → IsWithin s stop
 lines_stop_within may_have s More e = tt
 lines_stop_within may_have s (Bad left) e =
-    let P : Result ((List Header × ℕ) × List ℕ) Stop → Type 0 = MeetsRest may_have [] s in
+    let P : Result (HeadFields × List ℕ) Stop → Type 0 = MeetsRest may_have [] s in
     let t : RestStops may_have [] s left = subst P e (rest_meets may_have [] s) in
     omega (arith, t.left_is, ap length t.parts, length-append t.front (t.byte ∷ t.rest))

@@ -80,39 +80,47 @@ header_at s = do
 abbrev pub length_if_right : (ℕ → Bool) → List Header → Option ℕ
 length_if_right may_have hs = if may_have (cseq_count hs) then body_length hs else None
 
+-- what the lines behind the first one of a head say: its headers, and the length of the body
+pub record HeadFields : Type 0 where
+  pub headers : List Header
+  pub size : ℕ
+
+abbrev pub fields : List Header → ℕ → HeadFields
+fields hs n = record { headers = hs; size = n }
+
 -- The rest of a head behind some headers, for a number of lines at most.
-abbrev pub empty_line_at : List Header → Option ℕ → List ℕ → Result ((List Header × ℕ) × List ℕ) Stop
+abbrev pub empty_line_at : List Header → Option ℕ → List ℕ → Result (HeadFields × List ℕ) Stop
 empty_line_at hs None s = Err (Bad (length s))
-empty_line_at hs (Some n) s = literal_at crlf s >>= λ rest. Ok ((hs, n), rest)
+empty_line_at hs (Some n) s = literal_at crlf s >>= λ rest. Ok (fields hs n, rest)
 
 abbrev pub begins_with_cr : List ℕ → Bool
 begins_with_cr [] = false
 begins_with_cr (b ∷ s) = b == 13
 
-unfoldable pub lines_at : (ℕ → Bool) → ℕ → List Header → List ℕ → Result ((List Header × ℕ) × List ℕ) Stop
+unfoldable pub lines_at : (ℕ → Bool) → ℕ → List Header → List ℕ → Result (HeadFields × List ℕ) Stop
 lines_at may_have zero hs s = Err More
 lines_at may_have (suc n) hs s =
     if begins_with_cr s then empty_line_at hs (length_if_right may_have hs) s
     else (header_at s >>= λ h. lines_at may_have n (hs ++ h.0 ∷ []) h.1)
 
 -- Each line takes a byte or more, so this is enough.
-unfoldable pub rest_of_head : (ℕ → Bool) → List Header → List ℕ → Result ((List Header × ℕ) × List ℕ) Stop
+unfoldable pub rest_of_head : (ℕ → Bool) → List Header → List ℕ → Result (HeadFields × List ℕ) Stop
 rest_of_head may_have hs s = lines_at may_have (suc (length s)) hs s
 
 -- the rest of a head gives the length of the body, and the bytes behind it are these
 abbrev pub GivesSize : {X : Type 0} → (X → ℕ × List ℕ) → Result X Stop
-    → Result ((List Header × ℕ) × List ℕ) Stop → Type 0
-GivesSize view (Ok x) read = (headers : List Header) × (read ≡ Ok ((headers, (view x).0), (view x).1))
+    → Result (HeadFields × List ℕ) Stop → Type 0
+GivesSize view (Ok x) read = (headers : List Header) × (read ≡ Ok (fields headers (view x).0, (view x).1))
 GivesSize view (Err e) read = read ≡ Err e
 
 -- the bytes begin with the whole rest of a head
 abbrev pub HasRest : List ℕ → Type 0
-HasRest bytes = (may_have : ℕ → Bool) × (x : (List Header × ℕ) × List ℕ) × (rest_of_head may_have [] bytes ≡ Ok x)
+HasRest bytes = (may_have : ℕ → Bool) × (x : HeadFields × List ℕ) × (rest_of_head may_have [] bytes ≡ Ok x)
 
 -- these are the headers of that rest
 abbrev pub IsRestOf : List ℕ → List Header → Type 0
 IsRestOf bytes headers =
-    (may_have : ℕ → Bool) (x : (List Header × ℕ) × List ℕ) → rest_of_head may_have [] bytes ≡ Ok x → headers ≡ x.0.0
+    (may_have : ℕ → Bool) (x : HeadFields × List ℕ) → rest_of_head may_have [] bytes ≡ Ok x → headers ≡ x.0.headers
 
 -- ---- first lines
 
@@ -157,16 +165,24 @@ status_line_at s = do
 -- ---- heads and messages
 
 -- a head: what its first line says, its headers and the length of the body
+pub record Head (S : Type 0) : Type 0 where
+  pub start : S
+  pub headers : List Header
+  pub size : ℕ
+
+abbrev pub with_start : {S : Type 0} → S → HeadFields × List ℕ → Head S × List ℕ
+with_start start x = (record { start = start; headers = x.0.headers; size = x.0.size }, x.1)
+
 unfoldable pub head_by : {S : Type 0} → (List ℕ → Result (S × List ℕ) Stop) → (ℕ → Bool) → List ℕ
-    → Result ((S × (List Header × ℕ)) × List ℕ) Stop
+    → Result (Head S × List ℕ) Stop
 head_by first may_have s = do
   start ← first s
   rest ← rest_of_head may_have [] start.1
-  Ok ((start.0, rest.0), rest.1)
+  Ok (with_start start.0 rest)
 
 -- the same, where it is known what the first line says
-abbrev pub head_behind : {S : Type 0} → S → (ℕ → Bool) → List ℕ → Result ((S × (List Header × ℕ)) × List ℕ) Stop
-head_behind start may_have s = rest_of_head may_have [] s >>= λ x. Ok ((start, x.0), x.1)
+abbrev pub head_behind : {S : Type 0} → S → (ℕ → Bool) → List ℕ → Result (Head S × List ℕ) Stop
+head_behind start may_have s = rest_of_head may_have [] s >>= λ x. Ok (with_start start x)
 
 -- behind a head that ends at the place lies a body of n bytes, or less so far
 abbrev pub body_answer : {S : Type 0} → List ℕ → ℕ → S → List Header → ℕ → Answer S
@@ -189,6 +205,6 @@ place_answer None = Unfinished
 place_answer (Some place) = BadText place
 
 -- the answer by what was read of the first 4,096 bytes
-abbrev pub answer_by : {S : Type 0} → List ℕ → Result ((S × (List Header × ℕ)) × List ℕ) Stop → Answer S
-answer_by bytes (Ok x) = body_answer bytes (length (take most_head bytes) - length x.1) x.0.0 x.0.1.0 x.0.1.1
+abbrev pub answer_by : {S : Type 0} → List ℕ → Result (Head S × List ℕ) Stop → Answer S
+answer_by bytes (Ok x) = body_answer bytes (length (take most_head bytes) - length x.1) x.0.start x.0.headers x.0.size
 answer_by bytes (Err stop) = place_answer (stop_place bytes stop)

@@ -2,7 +2,8 @@
 
 ghost use Rattle.std.specs.Prelude.{◌≡◌, ◌<◌, IfOk};
 ghost use Rattle.gs_rtsp_text.specs.Lines.{is_same_name, is_cseq, is_content_length};
-ghost use Rattle.gs_rtsp_text.specs.Reading.{Stops, word, sequence_at, value_at, value_of_at, header_at, this_method, method_at, request_line_at, digit_at, status_line_at};
+ghost use Rattle.gs_rtsp_text.specs.Reading.{Stops, word, sequence_at, value_at, value_of_at, header_at};
+ghost use Rattle.gs_rtsp_text.specs.Reading.{this_method, method_at, request_line_at, digit_at, status_line_at};
 
 use crate::message::Method;
 use crate::scan::{ByteClass, literal, number, token};

@@ -3,7 +3,10 @@
 ghost use Rattle.std.specs.Prelude.{◌≡◌, ℕ, ◌+◌, ◌<◌, ◌≤◌, length, take, drop, MatchOption};
 ghost use Rattle.gs_rtsp_text.specs.declared.message.Read.TheVariants.{More as more_to_come};
 ghost use Rattle.gs_rtsp_text.specs.declared.message.TextError.TheVariants.{BadText};
-ghost use Rattle.gs_rtsp_text.specs.Message.{Answer, Answers, IfWhole, most_head, count_test, behind_message, request_message, response_message, is_one, is_at_most_one, IsRequest, IsBadRequestPlace, IsOpenRequest, IsRequestAnswer, IsResponse, IsBadResponsePlace, IsOpenResponse, IsResponseAnswer};
+ghost use Rattle.gs_rtsp_text.specs.Message.{Answer, Answers, IfWhole, most_head, count_test, is_one, is_at_most_one};
+ghost use Rattle.gs_rtsp_text.specs.Message.{behind_message, request_message, response_message};
+ghost use Rattle.gs_rtsp_text.specs.Message.{IsRequest, IsBadRequestPlace, IsOpenRequest, IsRequestAnswer};
+ghost use Rattle.gs_rtsp_text.specs.Message.{IsResponse, IsBadResponsePlace, IsOpenResponse, IsResponseAnswer};
 ghost use Rattle.gs_rtsp_text.specs.Reading.{IsWithin, answer_by, head_behind, head_by, request_line_at, status_line_at, stop_place};
 
 use crate::head::{Kind, body_size, copy_headers};
@@ -122,7 +125,9 @@ fn request_answer(alloc: Global, bytes: &[u8]) -> Result<Read<Request>, TextErro
     }
 }
 
-/// Reads the request at the front of the bytes, as far as they have come.
+/// Reads the request at the front of the bytes, as far as they have come (RFC 2326, section 6): a
+/// request line (section 6.1), headers (section 4.2), the empty line, and a body as long as its
+/// Content-length header says (section 4.4).
 pub fn read_request(alloc: Global, bytes: &[u8]) -> Result<Read<Request>, TextError>
     ensures whole { IfWhole result
         (λ request used. (used ≤ length bytes.now) × IsRequest (take used bytes.now) request) }
@@ -158,7 +163,8 @@ fn response_answer(alloc: Global, bytes: &[u8]) -> Result<Read<Response>, TextEr
     }
 }
 
-/// Reads the response at the front of the bytes, as far as they have come.
+/// Reads the response at the front of the bytes, as far as they have come (RFC 2326, section 7): a
+/// status line (section 7.1), and then headers, the empty line and a body as a request has them.
 pub fn read_response(alloc: Global, bytes: &[u8]) -> Result<Read<Response>, TextError>
     ensures whole { IfWhole result
         (λ response used. (used ≤ length bytes.now) × IsResponse (take used bytes.now) response) }

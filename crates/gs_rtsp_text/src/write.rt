@@ -1,9 +1,10 @@
 //! Writing requests and responses.
 
-ghost use Rattle.std.specs.Prelude.{◌≡◌, ◌<◌, ◌++◌, codes, decimal, IfOk, OnOk};
+ghost use Rattle.std.specs.Prelude.{◌≡◌, ◌<◌, ◌++◌, decimal, IfOk, OnOk};
 ghost use Rattle.std.specs.List.{flat_map};
 ghost use Rattle.gs_rtsp_text.specs.Lines.{three_digits};
-ghost use Rattle.gs_rtsp_text.specs.Writing.{header_text, request_line_text, status_line_text, reason_of, request_text, response_text, IsSendableRequest, IsSendableResponse};
+ghost use Rattle.gs_rtsp_text.specs.Writing.{header_text, request_line_text, status_line_text, reason_of};
+ghost use Rattle.gs_rtsp_text.specs.Writing.{request_text, response_text, IsSendableRequest, IsSendableResponse};
 
 use crate::header::Header;
 use crate::message::{Method, Request, Response};

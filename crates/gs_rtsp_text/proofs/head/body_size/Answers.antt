@@ -22,14 +22,14 @@ returns-in_err-name-clause-within c =
     (counted_stop c.args.kind _ _ _ c.args.bytes.now c.lines.rest.now c.in_err-name.field-0.0 c.lines.invariant line c.in_err-name.ensures))
 
 pub lines-smaller : goal.lines-smaller
-lines-smaller c = header_shorter c.lines.rest.now (record { name = c.in_ok-name.name.now; value = c.in_ok-name.value.now }) c.in_ok-name.behind.now
+lines-smaller c = header_shorter c.lines.rest.now (record { name = c.in_ok-name.field-0-0.name.now; value = c.in_ok-name.field-0-0.value.now }) c.in_ok-name.behind.now
     c.in_ok-name.ensures
 
 pub lines-preserved : goal.lines-preserved
 lines-preserved c =
     let line : begins_with_cr c.lines.rest.now ≡ false = cc in
     one_more c.args.kind c.lines.counts.sequences c.lines.counts.given c.lines.counts.size c.args.bytes.now c.lines.rest.now
-    (record { name = c.in_ok-name.name.now; value = c.in_ok-name.value.now }) c.in_ok-name.behind.now
+    (record { name = c.in_ok-name.field-0-0.name.now; value = c.in_ok-name.field-0-0.value.now }) c.in_ok-name.behind.now
     c.count-counts.result.sequences c.count-counts.result.given c.count-counts.result.size
     c.lines.invariant line c.in_ok-name.ensures c.count-counts.ensures.sequences c.count-counts.ensures.given c.count-counts.ensures.size
 

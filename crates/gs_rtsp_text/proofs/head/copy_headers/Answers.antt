@@ -11,7 +11,9 @@ unreachable-requires c =
     never_stops c.lines.headers.items c.args.bytes.now c.lines.rest.now c.in-Err.field-0 c.lines.invariant c.requires line c.in-Err.ensures
 
 pub lines-smaller : goal.lines-smaller
-lines-smaller c = header_shorter c.lines.rest.now (record { name = c.in-Ok.parts.0.name.now; value = c.in-Ok.parts.0.value.now }) c.in-Ok.parts.1.now c.in-Ok.ensures
+lines-smaller c =
+    let header : Header = record { name = c.in-Ok.parts.0.name.now; value = c.in-Ok.parts.0.value.now } in
+    header_shorter c.lines.rest.now header c.in-Ok.parts.1.now c.in-Ok.ensures
 
 pub lines-preserved : goal.lines-preserved
 lines-preserved c =
