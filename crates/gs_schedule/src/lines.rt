@@ -40,6 +40,7 @@ fn reach_line<S: Source>(held: &mut Held, source: &mut S) -> Result<Option<usize
     ensures tells { TellsFlag (S.met_end source.old) (S.met_end source.new) }
     ensures held { holds_line held.old ≡ true → source.new ≡ source.old }
     ensures some { holds_line held.old ≡ true → IfOk result (λ found. IfNone found ⊥) }
+    ensures unheld { OnErr result (holds_line held.old ≡ true → ⊥) }
     ensures written { Keeps (S.written source.old) (S.written source.new) }
     ensures never_falls { S.faults source.old ≤ S.faults source.new }
     ensures fault { IsErrOf result Failed.Fault → Rose (S.faults source.old) (S.faults source.new) }
@@ -125,6 +126,7 @@ impl Lines {
         // Where it is held nothing is read, and it isn't the end.
         ensures held { holds_line self.old.held ≡ true → source.new ≡ source.old }
         ensures some { holds_line self.old.held ≡ true → IfOk result (λ found. IfNone found ⊥) }
+        ensures unheld { IsErrOf result LinesError.ReadFault → holds_line self.old.held ≡ true → ⊥ }
 
         ensures fault { IsErrOf result LinesError.ReadFault → Rose (S.faults source.old) (S.faults source.new) }
         ensures counted { S.faults source.new ≢ S.faults source.old → result ≡ Err LinesError.ReadFault }

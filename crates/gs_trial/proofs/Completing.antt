@@ -11,9 +11,8 @@ use Rattle.gs_schedule.specs.declared.status.TrialStatus.TheVariants as status
 use Rattle.gs_run.specs.CaptureFile.{file_of, generated_file}
 use Rattle.gs_run.specs.Generated.{IsGeneratedRun, generated_steps}
 use Rattle.gs_run.specs.Run.{IsRun, Run}
-use Rattle.gs_run.proofs.OneRun.{schedules_have_one_run}
+use Rattle.gs_run.proofs.OneRun.{schedules_have_one_run, steps_have_one_run}
 use Rattle.gs_trial.specs.Trial.{AnswersIfTold, AnswersMake, AnswersScript, CompletesGenerated, CompletesIfTold, CountsFor, IsCause, WritesRun, answer_of}
-use Rattle.gs_trial.proofs.OneGenerated.{steps_have_one_run}
 
 -- an answer that is the run's own is its status
 other : (run : Run) (answer : TrialStatus) → run.status ≡ status.Ok → run.status ≡ answer → status.Ok ≡ answer

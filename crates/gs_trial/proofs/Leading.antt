@@ -23,14 +23,10 @@ use Rattle.gs_run.specs.Line.{AreDeeds, HasStep}
 use Rattle.gs_run.specs.Run.{Run, behind, refusal_status, stopped, RunsFrom, RunsOn}
 use Rattle.gs_trial.specs.declared.trial.Trial.{Trial}
 use Rattle.gs_trial.specs.Standing.{AreSessions, IsFeedOf, StandsFor}
-use Rattle.gs_trial.specs.Trial.{WritesFront, is_of_run}
-use Rattle.gs_trial.specs.Running.{EndsRun, EndsStep, IsRefused, IsSameButText, Leads, LedTo, WritesBehind, WritesUpTo}
+use Rattle.gs_trial.specs.Trial.{is_of_run}
+use Rattle.gs_trial.specs.Running.{EndsRun, EndsStep, IsRefused, IsSameButText, Leads, LedTo, WritesBehind, WritesPart, WritesUpTo, WritesWaiting}
 use Rattle.gs_run.proofs.SomeRun.{lines_some}
-use Rattle.gs_trial.proofs.Texts.{all_behind, front_longer, front_on, more_text, up_to_none, with_none}
-
-pub match_more : (b : Bool) (P Q P' Q' : Type 0) → (P → P') → (Q → Q') → MatchBool b P Q → MatchBool b P' Q'
-match_more true P Q P' Q' p q m = p m
-match_more false P Q P' Q' p q m = q m
+use Rattle.gs_trial.proofs.Texts.{all_behind, match_more, more_text, part_longer, part_of, part_on, up_to_none, with_none}
 
 -- ---- what was run
 
@@ -86,17 +82,16 @@ same_stands mid new file left state same stands =
 -- ---- how a run ends
 
 pub by_answer : (before : Reporting) (run : Run) (a b : Option (List ℕ)) (answer : TrialStatus) (x : Bool) → is_of_run answer ≡ x
-    → MatchBool x ((run.status ≡ answer) × Appends a b (with_reports before run.reports).text) (WritesFront a b (with_reports before run.reports).text)
+    → MatchBool x ((run.status ≡ answer) × Appends a b (with_reports before run.reports).text) (WritesPart answer before run.reports a b)
     → WritesBehind before run a b answer
 by_answer before run a b answer x is w =
     subst (λ (y : Bool). MatchBool y ((run.status ≡ answer) × Appends a b (with_reports before run.reports).text)
-    (WritesFront a b (with_reports before run.reports).text)) (sym is) w
+    (WritesPart answer before run.reports a b)) (sym is) w
 
 -- at most what waited was written
-pub front_of : (before : Reporting) (run : Run) (a b : Option (List ℕ)) (answer : TrialStatus) → is_of_run answer ≡ false → WritesFront a b before.text
-    → WritesBehind before run a b answer
-front_of before run a b answer not wrote =
-    by_answer before run a b answer false not (front_longer a b before.text (text_of before.detail run.reports) wrote)
+pub front_of : (before : Reporting) (run : Run) (a b : Option (List ℕ)) (answer : TrialStatus) → is_of_run answer ≡ false
+    → WritesWaiting answer a b before.text → WritesBehind before run a b answer
+front_of before run a b answer not wrote = by_answer before run a b answer false not (part_of answer before run.reports a b wrote)
 
 -- behind what was run
 pub ends_behind : {A : Type 0} (Has : ℕ → A → Option Step → Type 0) (before here : Reporting) (file : CaptureFile) (n m : ℕ) (xs ys : List A) (s t : State)
@@ -106,21 +101,22 @@ ends_behind Has before here file n m xs ys s t rs a b c answer led same wrote en
     let run = ends.run in
     let more = text_of before.detail run.reports in
     let whole = more_text before rs run.reports in
-    let end : MatchBool (is_of_run answer) ((run.status ≡ answer) × Appends b c (here.text ++ more)) (WritesFront b c (here.text ++ more)) =
-    subst (λ (d : Detail). MatchBool (is_of_run answer) ((run.status ≡ answer) × Appends b c (here.text ++ text_of d run.reports))
-    (WritesFront b c (here.text ++ text_of d run.reports))) same ends.writes in
     record {
       run = behind rs run;
       runs = led.leads run ends.runs;
       writes = match_more (is_of_run answer) _ _ _ _
-          (λ p. (p.0, subst (Appends a c) whole (all_behind a b c (with_reports before rs).text here.text more wrote p.1)))
-          (λ q. subst (WritesFront a c) whole (front_on a b c (with_reports before rs).text here.text more wrote q))
-          end;
+          (λ p. (
+            p.0,
+            subst (Appends a c) whole (all_behind a b c (with_reports before rs).text here.text more wrote
+                (subst (λ (d : Detail). Appends b c (here.text ++ text_of d run.reports)) same p.1)),
+          ))
+          (λ q. part_on answer before here rs run.reports a b c same wrote q)
+          ends.writes;
     }
 
 -- with an answer that isn't the run's at most what waited was written
 pub ends_front : (before : Reporting) (file : CaptureFile) (n : ℕ) (xs : List (List ℕ)) (s : State) (a c : Option (List ℕ)) (answer : TrialStatus)
-    → is_of_run answer ≡ false → WritesFront a c before.text → EndsRun HasStep before file n xs s a c answer
+    → is_of_run answer ≡ false → WritesWaiting answer a c before.text → EndsRun HasStep before file n xs s a c answer
 ends_front before file n xs s a c answer not wrote =
     let run = lines_some file n xs s in
     record { run = run.0; runs = run.1; writes = front_of before run.0 a c answer not wrote }
@@ -138,12 +134,12 @@ ends_bad before file n x xs s a c answer has wrote = record {
 -- the run behind deeds of which one was refused, or of which it isn't known
 step_end : (before : Reporting) (Rest : State → Run → Type 0) → ((t : State) → (run : Run) × Rest t run) → (did : Ran) (refused : Option Refusal) (n : ℕ)
     (a c : Option (List ℕ)) (answer : TrialStatus) (b : Bool) → is_of_run answer ≡ b
-    → MatchBool b (IsRefused n refused answer × Appends a c (with_reports before did.reports).text) (WritesFront a c (with_reports before did.reports).text)
+    → MatchBool b (IsRefused n refused answer × Appends a c (with_reports before did.reports).text) (WritesPart answer before did.reports a c)
     → (run : Run) × RunsOn n refused did Rest run × WritesBehind before run a c answer
 step_end before Rest more did (Some why) n a c answer true eq w =
     let run = behind did.reports (stopped (refusal_status n why) did.state) in
     let P = (run.status ≡ answer) × Appends a c (with_reports before run.reports).text in
-    let Q = WritesFront a c (with_reports before run.reports).text in
+    let Q = WritesPart answer before run.reports a c in
     let text : Appends a c (with_reports before run.reports).text =
     subst (λ (l : List Report). Appends a c (with_reports before l).text) (sym (append-nil did.reports)) w.1 in
     (run, refl, subst (λ (b : Bool). MatchBool b P Q) (sym eq) (w.0, text))
@@ -151,16 +147,15 @@ step_end before Rest more did None n a c answer true eq w = absurd w.0
 step_end before Rest more did (Some why) n a c answer false eq w =
     let run = behind did.reports (stopped (refusal_status n why) did.state) in
     let P = (run.status ≡ answer) × Appends a c (with_reports before run.reports).text in
-    let Q = WritesFront a c (with_reports before run.reports).text in
-    let text : Q = subst (λ (l : List Report). WritesFront a c (with_reports before l).text) (sym (append-nil did.reports)) w in
+    let Q = WritesPart answer before run.reports a c in
+    let text : Q = subst (λ (l : List Report). WritesPart answer before l a c) (sym (append-nil did.reports)) w in
     (run, refl, subst (λ (b : Bool). MatchBool b P Q) (sym eq) text)
 step_end before Rest more did None n a c answer false eq w =
     let rest = more did.state in
     let run = behind did.reports rest.0 in
     let P = (run.status ≡ answer) × Appends a c (with_reports before run.reports).text in
-    let Q = WritesFront a c (with_reports before run.reports).text in
-    let text : Q = subst (WritesFront a c) (more_text before did.reports rest.0.reports)
-    (front_longer a c (with_reports before did.reports).text (text_of before.detail rest.0.reports) w) in
+    let Q = WritesPart answer before run.reports a c in
+    let text : Q = part_longer answer before did.reports rest.0.reports a c w in
     (run, (rest.0, rest.1, refl), subst (λ (b : Bool). MatchBool b P Q) (sym eq) text)
 
 -- a step of which a deed was refused, or that wasn't run whole

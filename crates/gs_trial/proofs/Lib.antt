@@ -17,7 +17,6 @@ pub mod Results
 pub mod RunLines
 pub mod Proper
 pub mod Scripts
-pub mod OneGenerated
 pub mod Completing
 pub mod Commands
 pub mod ReadAgain

@@ -4,7 +4,7 @@ use Rattle.std.specs.Prelude.{IfErr, OnErr}
 use Rattle.std.specs.Result.{is_err}
 use Rattle.gs_schedule.specs.declared.status.TrialStatus.{TrialStatus}
 use Rattle.gs_schedule.specs.declared.status.TrialStatus.TheVariants as status
-use Rattle.gs_trial.specs.Trial.{is_of_run}
+use Rattle.gs_trial.specs.Trial.{is_of_run, is_of_source}
 
 pub on_more : {T E : Type 0} (r : Result T E) (P Q : Type 0) → (P → Q) → OnOk r P → OnOk r Q
 on_more (Ok x) P Q f h = f h
@@ -21,6 +21,9 @@ err_both (Err e) P Q R f h k = f e h k
 -- an answer of a sink that failed, or of want of memory
 pub not_of_run : (answer : TrialStatus) → (answer ≡ status.WriteFault) ⊎ (answer ≡ status.OutOfMemory) → is_of_run answer ≡ false
 not_of_run answer cause = elim cause [ inl e ↦ ap is_of_run e | inr e ↦ ap is_of_run e ]
+
+pub not_of_source : (answer : TrialStatus) → (answer ≡ status.WriteFault) ⊎ (answer ≡ status.OutOfMemory) → is_of_source answer ≡ false
+not_of_source answer cause = elim cause [ inl e ↦ ap is_of_source e | inr e ↦ ap is_of_source e ]
 
 pub err_more : {T E : Type 0} (r : Result T E) (Q R : E → Type 0) → ((e : E) → Q e → R e) → IfErr r Q → IfErr r R
 err_more (Ok x) Q R f k = k

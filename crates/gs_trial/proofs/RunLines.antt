@@ -1,6 +1,6 @@
 -- Line after line.
 use Rattle.std.proofs.Common.{◌≡◌, ◌+◌, ◌-◌, ◌<◌, ◌≤◌, ◌^◌, ◌++◌, ◌∙◌, ◌↔◌, ℕ, List, [], ◌∷◌, length, Option, Some, None, Result, Ok, Err}
-use Rattle.std.proofs.Common.{false, append-nil, refl, sym, ap, subst}
+use Rattle.std.proofs.Common.{◌⊎◌, false, append-nil, refl, sym, ap, subst}
 use Rattle.std.specs.Prelude.{IfSome}
 use Rattle.std.specs.Io.KnownBytes.{Appends, IsAtEnd, prepend_known}
 use Rattle.gs_bytes.specs.Outside.{AppendsPart}
@@ -20,11 +20,12 @@ use Rattle.gs_run.specs.Line.{HasStep}
 use Rattle.gs_run.specs.Run.{stopped}
 use Rattle.gs_trial.specs.declared.trial.Trial.{Trial}
 use Rattle.gs_trial.specs.Standing.{StandsFor}
-use Rattle.gs_trial.specs.Running.{EndsRun, EndsStep, IsSameButText, Leads, LedTo, RanStep, WritesBehind, WritesUpTo}
-use Rattle.gs_trial.specs.Trial.{WritesFront, is_of_run}
+use Rattle.gs_trial.specs.Running.{EndsRun, EndsStep, IsSameButText, Leads, LedTo, RanStep, WritesBehind, WritesUpTo, WritesWaiting}
+use Rattle.gs_trial.specs.Trial.{is_of_run}
 use Rattle.gs_trial.proofs.Leading.{ends_bad, ends_behind, ends_front, ends_step, front_of, leads_more, leads_step, led_none, next_bad, next_none, same_stands}
 use Rattle.gs_run.proofs.SomeRun.{lines_some}
-use Rattle.gs_trial.proofs.Texts.{front_part, up_to_on, up_to_reports}
+use Rattle.gs_trial.proofs.Results.{not_of_run, not_of_source}
+use Rattle.gs_trial.proofs.Texts.{front_part, up_to_on, up_to_reports, waiting_front}
 
 -- ---- one line
 
@@ -64,10 +65,15 @@ pub bad_line : (before : Reporting) (number : ℕ) (state : State) (a b : Option
     → WritesBehind before (stopped (status.BadSchedule number) state) a b (status.BadSchedule number)
 bad_line before number state a b wrote = (refl, subst (Appends a b) (sym (append-nil before.text)) wrote)
 
-pub unwritten_line : (before : Reporting) (number : ℕ) (state : State) (a b : Option (List ℕ)) (answer : TrialStatus) → is_of_run answer ≡ false
-    → AppendsPart a b before.text → WritesBehind before (stopped (status.BadSchedule number) state) a b answer
-unwritten_line before number state a b answer not part =
-    front_of before (stopped (status.BadSchedule number) state) a b answer not (front_part a b before.text part)
+-- a part of what waited
+pub waiting_part : (before : Reporting) (a b : Option (List ℕ)) (answer : TrialStatus) → (answer ≡ status.WriteFault) ⊎ (answer ≡ status.OutOfMemory)
+    → AppendsPart a b before.text → WritesWaiting answer a b before.text
+waiting_part before a b answer cause part = waiting_front answer a b before.text (not_of_source answer cause) (front_part a b before.text part)
+
+pub unwritten_line : (before : Reporting) (number : ℕ) (state : State) (a b : Option (List ℕ)) (answer : TrialStatus)
+    → (answer ≡ status.WriteFault) ⊎ (answer ≡ status.OutOfMemory) → AppendsPart a b before.text → WritesBehind before (stopped (status.BadSchedule number) state) a b answer
+unwritten_line before number state a b answer cause part =
+    front_of before (stopped (status.BadSchedule number) state) a b answer (not_of_run answer cause) (waiting_part before a b answer cause part)
 
 -- ---- one after the other
 
@@ -187,7 +193,7 @@ led_all before file bytes state a b lines source trial left found on given is =
 -- at most what waited was written
 pub ends_quietly : (before : Reporting) (file : CaptureFile) (bytes : List ℕ) (state : State) (a b d : Option (List ℕ)) (lines : LinesState)
     (source : Option (List ℕ)) (trial : Trial) (left : Option (List ℕ)) (answer : TrialStatus) → is_of_run answer ≡ false
-    → WritesFront b d trial.reporter.text → LedOn before file bytes state a b lines source trial left
+    → WritesWaiting answer b d trial.reporter.text → LedOn before file bytes state a b lines source trial left
     → EndsRun HasStep before file 1 (lines_of bytes) state a d answer
 ends_quietly before file bytes state a b d lines source trial left answer not wrote on =
     ends_on before file bytes state a b d lines source trial left answer on

@@ -26,12 +26,12 @@ use Rattle.gs_run.specs.Run.{IsRun, Run, RunsFrom, RunsUnless, fault_status, fin
 use Rattle.gs_trial.specs.declared.trial.Trial.{Trial}
 use Rattle.gs_trial.specs.Standing.{IsFeedOf, StandsFor}
 use Rattle.gs_trial.specs.Stepping.{tape_status}
-use Rattle.gs_trial.specs.Running.{EndsRun, LedTo, WritesBehind}
+use Rattle.gs_trial.specs.Running.{EndsRun, LedTo, WritesBehind, WritesWaiting}
 use Rattle.gs_trial.specs.Trial.{AnswersIfTold, AnswersScript, WritesFront, WritesRun, answer_of, is_of_run}
 use Rattle.gs_trial.proofs.Leading.{by_answer, ends_behind, front_of}
-use Rattle.gs_trial.proofs.Results.{not_of_run}
+use Rattle.gs_trial.proofs.Results.{not_of_run, not_of_source}
 use Rattle.gs_run.proofs.SomeRun.{lines_some}
-use Rattle.gs_trial.proofs.Texts.{front_all, front_behind, front_none, front_part}
+use Rattle.gs_trial.proofs.Texts.{front_all, front_behind, front_none, front_part, part_front}
 
 -- ---- the end
 
@@ -40,8 +40,9 @@ abbrev pub new_reporter : Detail → Reporting
 new_reporter detail = record { detail = detail; text = [] }
 
 -- nothing was written of a run that wasn't ended by this answer
-pub quiet : (detail : Detail) (run : Run) (a : Option (List ℕ)) (answer : TrialStatus) → is_of_run answer ≡ false → WritesRun detail run a a answer
-quiet detail run a answer not = front_of (new_reporter detail) run a a answer not (front_none a [])
+pub quiet : (detail : Detail) (run : Run) (a : Option (List ℕ)) (answer : TrialStatus) → is_of_run answer ≡ false → WritesWaiting answer a a []
+    → WritesRun detail run a a answer
+quiet detail run a answer not none = front_of (new_reporter detail) run a a answer not none
 
 -- what waited was written, and the file has this fault
 ended : (before : Reporting) (fault : Option Fault) (state : State) (a b : Option (List ℕ)) (why : Fault) (answer : TrialStatus) → fault ≡ Some why
@@ -54,7 +55,7 @@ ended before fault state a b why answer is names of wrote =
 pub finish_fails : (before : Reporting) (fault : Option Fault) (state : State) (a b : Option (List ℕ)) (e : TapeError) → EndsWith {A = ⊤} fault (Err e)
     → Appends a b before.text → WritesBehind before (finished fault state) a b (tape_status e)
 finish_fails before fault state a b tape_error.TapeFault ends wrote =
-    front_of before (finished fault state) a b status.TapeFault refl (front_all a b before.text wrote)
+    front_of before (finished fault state) a b status.TapeFault refl wrote
 finish_fails before fault state a b tape_error.OutOfMemory ends wrote =
     front_of before (finished fault state) a b status.OutOfMemory refl (front_all a b before.text wrote)
 finish_fails before fault state a b (tape_error.BadTape kind place) ends wrote = ended before fault state a b _ _ ends refl refl wrote
@@ -82,8 +83,8 @@ finish_writes before here now fault state a b c r first same none whole is wrote
     by (Ok done) wrote part cause =
         (refl, Appends-trans a b c before.text (text_of before.detail sums) first (subst (Appends b c) text wrote))
     by (Err e) wrote part cause =
-        by_answer before (finished None state) a c e false (not_of_run e cause)
-        (front_behind a b c before.text (text_of before.detail sums) first (subst (WritesFront b c) text (front_part b c now.text part)))
+        by_answer before (finished None state) a c e false (not_of_run e cause) (part_front e before sums a c (not_of_source e cause)
+        (front_behind a b c before.text (text_of before.detail sums) first (subst (WritesFront b c) text (front_part b c now.text part))))
 
 -- ---- the head
 
@@ -117,10 +118,10 @@ answers hold detail bytes lines a b answer run is wrote =
     record { run = run; is_run = is; writes = wrote; holds = λ all. hold bytes (lines_of lines) run all is }
 
 unopened : RunsOverBytesHold → (detail : Detail) (bytes lines : List ℕ) (a : Option (List ℕ)) (answer : TrialStatus) → is_of_run answer ≡ false
-    → AnswersScript detail bytes lines a a answer
-unopened hold detail bytes lines a answer not =
+    → WritesWaiting answer a a [] → AnswersScript detail bytes lines a a answer
+unopened hold detail bytes lines a answer not none =
     let r = some_run (file_of bytes) (lines_of lines) in
-    answers hold detail bytes lines a a answer r.0 r.1 (quiet detail r.0 a answer not)
+    answers hold detail bytes lines a a answer r.0 r.1 (quiet detail r.0 a answer not none)
 
 headless : RunsOverBytesHold → (detail : Detail) (bytes lines : List ℕ) (a : Option (List ℕ)) (why : Fault) (answer : TrialStatus)
     → head_at (length bytes) bytes ≡ Err why → fault_status why ≡ answer → is_of_run answer ≡ true → AnswersScript detail bytes lines a a answer
@@ -135,8 +136,8 @@ headless hold detail bytes lines a why answer is names of =
 -- a file that isn't opened
 pub open_fails : RunsOverBytesHold → (detail : Detail) (bytes : List ℕ) (lines : List ℕ) (a left : Option (List ℕ)) (e : TapeError)
     → Opens (Some bytes) left (Err e) → AnswersScript detail bytes lines a a (tape_status e)
-open_fails hold detail bytes lines a left tape_error.TapeFault opens = unopened hold detail bytes lines a status.TapeFault refl
-open_fails hold detail bytes lines a left tape_error.OutOfMemory opens = unopened hold detail bytes lines a status.OutOfMemory refl
+open_fails hold detail bytes lines a left tape_error.TapeFault opens = unopened hold detail bytes lines a status.TapeFault refl (Appends-nil a)
+open_fails hold detail bytes lines a left tape_error.OutOfMemory opens = unopened hold detail bytes lines a status.OutOfMemory refl (front_none a [])
 open_fails hold detail bytes lines a left (tape_error.BadTape kind place) opens = headless hold detail bytes lines a _ _ opens refl refl
 open_fails hold detail bytes lines a left (tape_error.TapeFull tick) opens = headless hold detail bytes lines a _ _ opens refl refl
 open_fails hold detail bytes lines a left (tape_error.UnitTooLarge tick) opens = headless hold detail bytes lines a _ _ opens refl refl

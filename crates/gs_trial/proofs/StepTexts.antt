@@ -1,5 +1,6 @@
 -- The text of a step is written.
-use Rattle.std.proofs.Common.{◌≡◌, ◌∙◌, ◌++◌, ℕ, Bool, true, false, List, Option, Some, None, Ok, Err, refl, sym, ap, subst}
+use Rattle.std.proofs.Common.{◌≡◌, ◌∙◌, ◌++◌, ◌⊎◌, ℕ, Bool, true, false, List, [], Option, Some, None, Ok, Err, refl, sym, ap, subst}
+use Rattle.std.proofs.KnownBytes.{Appends-nil}
 use Rattle.std.specs.Prelude.{IfSome, MatchBool, is_some}
 use Rattle.std.specs.Io.KnownBytes.{Appends}
 use Rattle.gs_bytes.specs.Outside.{AppendsPart}
@@ -7,6 +8,7 @@ use Rattle.gs_tape.specs.declared.error.TapeError.TheVariants as tape_error
 use Rattle.gs_command.specs.declared.command.Detail.{Detail}
 use Rattle.gs_schedule.specs.declared.step.Step.{Step}
 use Rattle.gs_schedule.specs.declared.status.TrialStatus.{TrialStatus}
+use Rattle.gs_schedule.specs.declared.status.TrialStatus.TheVariants as status
 use Rattle.gs_report.specs.Reporting.{Reporting, with_reports}
 use Rattle.gs_run.specs.CaptureFile.{CaptureFile}
 use Rattle.gs_run.specs.Session.{State}
@@ -20,11 +22,12 @@ use Rattle.gs_trial.specs.declared.error.StepError.{StepError}
 use Rattle.gs_trial.specs.declared.error.StepError.TheVariants as step_error
 use Rattle.gs_trial.specs.declared.trial.Trial.{Trial}
 use Rattle.gs_trial.specs.Stepping.{RanTo, Steps, StepsIfTold, refusal_of, step_status}
-use Rattle.gs_trial.specs.Running.{EndsStep, IsRefused, IsSameButText, RanStep, WritesUpTo}
+use Rattle.gs_trial.specs.Running.{EndsStep, IsRefused, IsSameButText, RanStep, WritesPart, WritesUpTo, WritesWaiting}
 use Rattle.gs_trial.specs.Trial.{WritesFront, is_of_run}
-use Rattle.gs_trial.proofs.Leading.{match_more, same_stands}
+use Rattle.gs_trial.proofs.Leading.{same_stands}
+use Rattle.gs_trial.proofs.Results.{not_of_run, not_of_source}
 use Rattle.gs_run.proofs.SomeRun.{deeds_of}
-use Rattle.gs_trial.proofs.Texts.{all_behind, front_longer, front_none, front_on, front_part, up_to_more}
+use Rattle.gs_trial.proofs.Texts.{all_behind, front_none, front_part, match_more, part_front, part_of, part_on, up_to_more, with_none}
 
 -- what waits now is what waited before the step, and the text of its reports
 text_is : (here now : Reporting) (reports : List Report) → now ≡ with_reports here reports → now.text ≡ (with_reports here reports).text
@@ -64,7 +67,8 @@ ends_behind_it before here file number step state a b c answer same wrote ends =
       are_deeds = ends.are_deeds;
       writes = match_more (is_of_run answer) _ _ _ _
           (λ p. (p.0, all_behind a b c before.text here.text more wrote (subst (Appends b c) is p.1)))
-          (λ q. front_on a b c before.text here.text more wrote (subst (WritesFront b c) is q))
+          (λ q. part_on answer before here [] did.reports a b c same
+          (subst (λ (r : Reporting). WritesUpTo a b r.text here.text) (sym (with_none before)) wrote) q)
           ends.writes;
     }
 
@@ -72,13 +76,13 @@ ends_behind_it before here file number step state a b c answer same wrote ends =
 
 -- it isn't known how far it came, and at most what waited before was written
 pub ends_unknown : (here : Reporting) (file : CaptureFile) (number : ℕ) (step : Step) (state : State) (a b : Option (List ℕ)) (answer : TrialStatus)
-    → is_of_run answer ≡ false → WritesFront a b here.text → EndsStep here file number step state a b answer
+    → is_of_run answer ≡ false → WritesWaiting answer a b here.text → EndsStep here file number step state a b answer
 ends_unknown here file number step state a b answer not wrote =
     let d = deeds_of file step state in
     let did = ran file d.0 state in
     let P = IsRefused number did.refused answer × Appends a b (with_reports here did.reports).text in
-    let Q = WritesFront a b (with_reports here did.reports).text in
-    let text : Q = front_longer a b here.text (text_of here.detail did.reports) wrote in
+    let Q = WritesPart answer here did.reports a b in
+    let text : Q = part_of answer here did.reports a b wrote in
     record { deeds = d.0; are_deeds = d.1; writes = subst (λ (x : Bool). MatchBool x P Q) (sym not) text }
 
 pub ran_step : (mid new : Trial) (here : Reporting) (file : CaptureFile) (step : Step) (state : State) (left a b : Option (List ℕ))
@@ -98,14 +102,15 @@ ran_step mid new here file step state left a b s same wrote =
 -- a part of it alone
 pub ends_part : (mid : Trial) (here : Reporting) (file : CaptureFile) (number : ℕ) (step : Step) (state : State) (left a b : Option (List ℕ))
     (answer : TrialStatus)
-    → Steps file step state left mid here mid.reporter (Ok tt) → is_of_run answer ≡ false → AppendsPart a b mid.reporter.text
-    → EndsStep here file number step state a b answer
-ends_part mid here file number step state left a b answer s not part =
+    → Steps file step state left mid here mid.reporter (Ok tt) → (answer ≡ status.WriteFault) ⊎ (answer ≡ status.OutOfMemory)
+    → AppendsPart a b mid.reporter.text → EndsStep here file number step state a b answer
+ends_part mid here file number step state left a b answer s cause part =
     let did = ran file s.deeds state in
     let P = IsRefused number did.refused answer × Appends a b (with_reports here did.reports).text in
-    let Q = WritesFront a b (with_reports here did.reports).text in
-    let text : Q = subst (WritesFront a b) (text_is here mid.reporter did.reports s.ran_as.ran.text) (front_part a b mid.reporter.text part) in
-    record { deeds = s.deeds; are_deeds = s.are_deeds; writes = subst (λ (x : Bool). MatchBool x P Q) (sym not) text }
+    let Q = WritesPart answer here did.reports a b in
+    let front = subst (WritesFront a b) (text_is here mid.reporter did.reports s.ran_as.ran.text) (front_part a b mid.reporter.text part) in
+    let text : Q = part_front answer here did.reports a b (not_of_source answer cause) front in
+    record { deeds = s.deeds; are_deeds = s.are_deeds; writes = subst (λ (x : Bool). MatchBool x P Q) (sym (not_of_run answer cause)) text }
 
 -- a deed of it was refused
 refused_so : (mid : Trial) (here : Reporting) (file : CaptureFile) (number : ℕ) (step : Step) (state : State) (a b : Option (List ℕ)) (deeds : List Deed)
@@ -116,34 +121,35 @@ refused_so : (mid : Trial) (here : Reporting) (file : CaptureFile) (number : ℕ
 refused_so mid here file number step state a b deeds why are to refusal names of wrote =
     let did = ran file deeds state in
     let P = IsRefused number did.refused refusal × Appends a b (with_reports here did.reports).text in
-    let Q = WritesFront a b (with_reports here did.reports).text in
+    let Q = WritesPart refusal here did.reports a b in
     let refused : IsRefused number did.refused refusal = subst (λ (o : Option Refusal). IsRefused number o refusal) (sym to.refused_is) names in
     let text = subst (Appends a b) (text_is here mid.reporter did.reports to.text) wrote in
     record { deeds = deeds; are_deeds = are; writes = subst (λ (x : Bool). MatchBool x P Q) (sym of) (refused, text) }
 
 quietly : (here : Reporting) (file : CaptureFile) (number : ℕ) (step : Step) (state : State) (a b : Option (List ℕ)) (answer : TrialStatus)
-    → is_of_run answer ≡ false → b ≡ a → EndsStep here file number step state a b answer
-quietly here file number step state a b answer not same =
-    ends_unknown here file number step state a b answer not (subst (λ (o : Option (List ℕ)). WritesFront a o here.text) (sym same) (front_none a here.text))
+    → is_of_run answer ≡ false → b ≡ a → WritesWaiting answer a a here.text → EndsStep here file number step state a b answer
+quietly here file number step state a b answer not same none =
+    ends_unknown here file number step state a b answer not (subst (λ (o : Option (List ℕ)). WritesWaiting answer a o here.text) (sym same) none)
 
 pub ends_after : (mid : Trial) (here : Reporting) (file : CaptureFile) (number : ℕ) (step : Step) (state : State) (left a b : Option (List ℕ)) (e : StepError)
     → StepsIfTold file step state left mid here mid.reporter (Err e) → (is_some (refusal_of e) ≡ true → Appends a b mid.reporter.text)
-    → (is_some (refusal_of e) ≡ false → b ≡ a) → EndsStep here file number step state a b (step_status e number)
-ends_after mid here file number step state left a b step_error.BadLine s wrote not =
+    → (is_some (refusal_of e) ≡ false → b ≡ a) → (e ≡ step_error.Tape tape_error.TapeFault → here.text ≡ [])
+    → EndsStep here file number step state a b (step_status e number)
+ends_after mid here file number step state left a b step_error.BadLine s wrote not empty =
     refused_so mid here file number step state a b s.deeds _ s.are_deeds s.ran_as _ refl refl (wrote refl)
-ends_after mid here file number step state left a b step_error.OutOfMemory s wrote not =
-    quietly here file number step state a b _ refl (not refl)
-ends_after mid here file number step state left a b (step_error.Tape tape_error.TapeFault) s wrote not =
-    quietly here file number step state a b _ refl (not refl)
-ends_after mid here file number step state left a b (step_error.Tape tape_error.OutOfMemory) s wrote not =
-    quietly here file number step state a b _ refl (not refl)
-ends_after mid here file number step state left a b (step_error.Tape (tape_error.BadTape kind place)) s wrote not =
+ends_after mid here file number step state left a b step_error.OutOfMemory s wrote not empty =
+    quietly here file number step state a b _ refl (not refl) (front_none a here.text)
+ends_after mid here file number step state left a b (step_error.Tape tape_error.TapeFault) s wrote not empty =
+    quietly here file number step state a b _ refl (not refl) (subst (Appends a a) (sym (empty refl)) (Appends-nil a))
+ends_after mid here file number step state left a b (step_error.Tape tape_error.OutOfMemory) s wrote not empty =
+    quietly here file number step state a b _ refl (not refl) (front_none a here.text)
+ends_after mid here file number step state left a b (step_error.Tape (tape_error.BadTape kind place)) s wrote not empty =
     refused_so mid here file number step state a b s.deeds _ s.are_deeds s.ran_as _ refl refl (wrote refl)
-ends_after mid here file number step state left a b (step_error.Tape (tape_error.TapeFull tick)) s wrote not =
+ends_after mid here file number step state left a b (step_error.Tape (tape_error.TapeFull tick)) s wrote not empty =
     refused_so mid here file number step state a b s.deeds _ s.are_deeds s.ran_as _ refl refl (wrote refl)
-ends_after mid here file number step state left a b (step_error.Tape (tape_error.UnitTooLarge tick)) s wrote not =
+ends_after mid here file number step state left a b (step_error.Tape (tape_error.UnitTooLarge tick)) s wrote not empty =
     refused_so mid here file number step state a b s.deeds _ s.are_deeds s.ran_as _ refl refl (wrote refl)
-ends_after mid here file number step state left a b (step_error.Tape (tape_error.AudioLength length)) s wrote not =
+ends_after mid here file number step state left a b (step_error.Tape (tape_error.AudioLength length)) s wrote not empty =
     refused_so mid here file number step state a b s.deeds _ s.are_deeds s.ran_as _ refl refl (wrote refl)
 
 -- a part of the text of a step of which a deed was refused
@@ -158,17 +164,18 @@ told_steps (Some why) P told p = p
 
 pub ends_told : (mid : Trial) (here : Reporting) (file : CaptureFile) (number : ℕ) (step : Step) (state : State) (left a b : Option (List ℕ))
     (answer : TrialStatus) (e : StepError)
-    → StepsIfTold file step state left mid here mid.reporter (Err e) → is_some (refusal_of e) ≡ true → is_of_run answer ≡ false
+    → StepsIfTold file step state left mid here mid.reporter (Err e) → is_some (refusal_of e) ≡ true
+    → (answer ≡ status.WriteFault) ⊎ (answer ≡ status.OutOfMemory)
     → AppendsPart a b mid.reporter.text → EndsStep here file number step state a b answer
-ends_told mid here file number step state left a b answer e is told not part =
+ends_told mid here file number step state left a b answer e is told cause part =
     let s = told_steps (refusal_of e) (Steps file step state left mid here mid.reporter (Err e)) told is in
     let did = ran file s.deeds state in
     let text : mid.reporter.text ≡ (with_reports here did.reports).text =
     text_is here mid.reporter did.reports (told_text (refusal_of e) did here mid.reporter told s.ran_as) in
     let P = IsRefused number did.refused answer × Appends a b (with_reports here did.reports).text in
-    let Q = WritesFront a b (with_reports here did.reports).text in
-    let front : Q = subst (WritesFront a b) text (front_part a b mid.reporter.text part) in
-    record { deeds = s.deeds; are_deeds = s.are_deeds; writes = subst (λ (x : Bool). MatchBool x P Q) (sym not) front }
+    let Q = WritesPart answer here did.reports a b in
+    let front : Q = part_front answer here did.reports a b (not_of_source answer cause) (subst (WritesFront a b) text (front_part a b mid.reporter.text part)) in
+    record { deeds = s.deeds; are_deeds = s.are_deeds; writes = subst (λ (x : Bool). MatchBool x P Q) (sym (not_of_run answer cause)) front }
 
 pub ends_at : (here : Reporting) (file : CaptureFile) (number : ℕ) (step : Step) (state : State) (a b b' : Option (List ℕ)) (answer answer' : TrialStatus)
     → b' ≡ b → answer' ≡ answer → EndsStep here file number step state a b answer → EndsStep here file number step state a b' answer'

@@ -1,6 +1,7 @@
 -- The text of reports, and of reports behind others.
 use Rattle.std.proofs.Common.{◌≡◌, ◌+◌, ℕ, List, [], ◌++◌, length, take, Option, sym, ap, subst, ◌∙◌, append_assoc}
-use Rattle.std.proofs.Common.{refl, append-nil, arith, inl, inr}
+use Rattle.std.proofs.Common.{Bool, true, false, refl, append-nil, arith, inl, inr}
+use Rattle.std.specs.Prelude.{MatchBool}
 use Rattle.std.specs.Io.KnownBytes.{Appends}
 use Rattle.std.proofs.KnownBytes.{Appends-nil, Appends-trans}
 use Rattle.std.proofs.lemmas.Grind.{flat_map-append}
@@ -11,8 +12,13 @@ use Rattle.gs_bytes.specs.Outside.{AppendsPart}
 use Rattle.gs_command.specs.declared.command.Detail.{Detail}
 use Rattle.gs_run.specs.Report.{Report, report_text, text_of}
 use Rattle.gs_report.specs.Reporting.{Reporting, with_reports}
-use Rattle.gs_trial.specs.Trial.{WritesFront}
-use Rattle.gs_trial.specs.Running.{WritesUpTo}
+use Rattle.gs_schedule.specs.declared.status.TrialStatus.{TrialStatus}
+use Rattle.gs_trial.specs.Trial.{WritesFront, is_of_source}
+use Rattle.gs_trial.specs.Running.{WritesPart, WritesUpTo, WritesWaiting}
+
+pub match_more : (b : Bool) (P Q P' Q' : Type 0) → (P → P') → (Q → Q') → MatchBool b P Q → MatchBool b P' Q'
+match_more true P Q P' Q' p q m = p m
+match_more false P Q P' Q' p q m = q m
 
 pub text-append : (detail : Detail) (xs ys : List Report) → text_of detail (xs ++ ys) ≡ text_of detail xs ++ text_of detail ys
 text-append detail xs ys = flat_map-append (report_text detail) xs ys
@@ -89,6 +95,60 @@ pub front_on : (a b c : Option (List ℕ)) (text waits more : List ℕ) → Writ
     → WritesFront a c (text ++ more)
 front_on a b c text waits more (w, p, e) q =
     subst (WritesFront a c) (longer text w waits more e) (front_behind a b c w (waits ++ more) p q)
+
+-- ---- a part of what waited and of the text of reports
+
+-- what waited, before any of the reports
+pub part_of : (answer : TrialStatus) (before : Reporting) (rs : List Report) (a b : Option (List ℕ)) → WritesWaiting answer a b before.text
+    → WritesPart answer before rs a b
+part_of answer before rs a b wrote =
+    match_more (is_of_source answer) _ _ _ _
+    (λ all. (0, subst (λ (r : Reporting). Appends a b r.text) (sym (with_none before)) all))
+    (λ front. front_longer a b before.text (text_of before.detail rs) front)
+    wrote
+
+-- where no source failed, any front
+pub part_front : (answer : TrialStatus) (before : Reporting) (rs : List Report) (a b : Option (List ℕ)) → is_of_source answer ≡ false
+    → WritesFront a b (with_reports before rs).text → WritesPart answer before rs a b
+part_front answer before rs a b not front =
+    subst (λ (x : Bool). MatchBool x ((n : ℕ) × Appends a b (with_reports before (take n rs)).text) (WritesFront a b (with_reports before rs).text))
+    (sym not) front
+
+pub waiting_front : (answer : TrialStatus) (a b : Option (List ℕ)) (waits : List ℕ) → is_of_source answer ≡ false → WritesFront a b waits
+    → WritesWaiting answer a b waits
+waiting_front answer a b waits not front = subst (λ (x : Bool). MatchBool x (Appends a b waits) (WritesFront a b waits)) (sym not) front
+
+-- a front of reports is one of more of them
+front_of_more : (n : ℕ) (xs ys : List Report) → (m : ℕ) × (take m (xs ++ ys) ≡ take n xs)
+front_of_more n xs ys = elim (cases_lt n (length xs)) [
+  | inl less ↦ (n, take-append-le n xs ys (omega (arith, less)))
+  | inr more ↦ (length xs, take-append_seam xs ys ∙ sym (take_all n xs more))
+]
+
+pub part_longer : (answer : TrialStatus) (before : Reporting) (xs ys : List Report) (a b : Option (List ℕ)) → WritesPart answer before xs a b
+    → WritesPart answer before (xs ++ ys) a b
+part_longer answer before xs ys a b wrote =
+    match_more (is_of_source answer) _ _ _ _
+    (λ (n, all). let m = front_of_more n xs ys in (m.0, subst (λ (l : List Report). Appends a b (with_reports before l).text) (sym m.1) all))
+    (λ front. subst (WritesFront a b) (more_text before xs ys) (front_longer a b (with_reports before xs).text (text_of before.detail ys) front))
+    wrote
+
+-- behind what waited, and reports of which a part still waits
+pub part_on : (answer : TrialStatus) (before here : Reporting) (xs ys : List Report) (a b c : Option (List ℕ)) → here.detail ≡ before.detail
+    → WritesUpTo a b (with_reports before xs).text here.text → WritesPart answer here ys b c → WritesPart answer before (xs ++ ys) a c
+part_on answer before here xs ys a b c same first wrote =
+    match_more (is_of_source answer) _ _ _ _
+    (λ (n, all). (
+      length xs + n,
+      subst (λ (l : List Report). Appends a c (with_reports before l).text) (sym (take-append-add xs ys n))
+          (subst (Appends a c) (more_text before xs (take n ys))
+          (all_behind a b c (with_reports before xs).text here.text (text_of before.detail (take n ys)) first
+          (subst (λ (d : Detail). Appends b c (here.text ++ text_of d (take n ys))) same all))),
+    ))
+    (λ front. subst (WritesFront a c) (more_text before xs ys)
+    (front_on a b c (with_reports before xs).text here.text (text_of before.detail ys) first
+    (subst (λ (d : Detail). WritesFront b c (here.text ++ text_of d ys)) same front)))
+    wrote
 
 -- reports behind others
 pub up_to_reports : (before here : Reporting) (xs ys : List Report) (a b c : Option (List ℕ)) (now : List ℕ) → here.detail ≡ before.detail

@@ -1,6 +1,6 @@
--- The run of lines, or of steps, on the way: what was run so far, and what is left to run. Their text is gathered
--- before it is written: of what was reported a part waits.
-use Rattle.std.specs.Prelude.{ℕ, ◌≡◌, ◌++◌, List, Option, Some, None, MatchBool}
+-- Cited by private contracts alone: the run of lines, or of steps, on the way, with what was run so far and what is
+-- left to run. Their text is gathered before it is written: of what was reported a part waits.
+use Rattle.std.specs.Prelude.{ℕ, ◌≡◌, ◌++◌, List, Option, Some, None, MatchBool, take}
 use Rattle.std.specs.Io.KnownBytes.{Appends}
 use Rattle.gs_schedule.specs.declared.step.Step.{Step}
 use Rattle.gs_schedule.specs.declared.status.TrialStatus.{TrialStatus}
@@ -15,7 +15,7 @@ use Rattle.gs_run.specs.Line.{AreDeeds}
 use Rattle.gs_run.specs.Run.{Run, RunsFrom, behind, refusal_status}
 use Rattle.gs_trial.specs.declared.trial.Trial.{Trial}
 use Rattle.gs_trial.specs.Standing.{StandsFor}
-use Rattle.gs_trial.specs.Trial.{WritesFront, is_of_run}
+use Rattle.gs_trial.specs.Trial.{WritesFront, is_of_run, is_of_source}
 
 -- ---- text that waits
 
@@ -23,13 +23,25 @@ use Rattle.gs_trial.specs.Trial.{WritesFront, is_of_run}
 abbrev pub WritesUpTo : (old new : Option (List ℕ)) → (text waits : List ℕ) → Type 0
 WritesUpTo old new text waits = (written : List ℕ) × Appends old new written × (text ≡ written ++ waits)
 
--- A run ends with this answer, and what waited before it was written with the whole text of the run; a front of both
+-- what waited was written, or a front of it where no source failed
+abbrev pub WritesWaiting : TrialStatus → (old new : Option (List ℕ)) → List ℕ → Type 0
+WritesWaiting answer old new waits = MatchBool (is_of_source answer) (Appends old new waits) (WritesFront old new waits)
+
+-- What waited before was written, and the text of the first of these reports; where no source failed a front of both
+-- alone.
+abbrev pub WritesPart : TrialStatus → Reporting → List Report → (old new : Option (List ℕ)) → Type 0
+WritesPart answer before reports old new =
+    MatchBool (is_of_source answer)
+    ((n : ℕ) × Appends old new (with_reports before (take n reports)).text)
+    (WritesFront old new (with_reports before reports).text)
+
+-- A run ends with this answer, and what waited before it was written with the whole text of the run; a part of both
 -- where the answer isn't the run's.
 abbrev pub WritesBehind : Reporting → Run → (old new : Option (List ℕ)) → TrialStatus → Type 0
 WritesBehind before run old new answer =
     MatchBool (is_of_run answer)
     ((run.status ≡ answer) × Appends old new (with_reports before run.reports).text)
-    (WritesFront old new (with_reports before run.reports).text)
+    (WritesPart answer before run.reports old new)
 
 -- the same trial, but for the text that waits
 pub record IsSameButText (old new : Trial) : Type 0 where
@@ -60,7 +72,7 @@ pub record LedTo {A : Type 0} (Has : ℕ → A → Option Step → Type 0) (befo
   pub writes : WritesUpTo old new (with_reports before reports).text trial.reporter.text
 
 -- The run of these steps ends with this answer, and what waited before and its text were written; where the answer
--- isn't the run's, a front of both.
+-- isn't the run's, a part of both.
 pub record EndsRun {A : Type 0} (Has : ℕ → A → Option Step → Type 0) (before : Reporting) (file : CaptureFile)
     (number : ℕ) (steps : List A) (state : State) (old new : Option (List ℕ)) (answer : TrialStatus) : Type 0 where
   pub run : Run
@@ -85,7 +97,7 @@ IsRefused number None answer = ⊥
 IsRefused number (Some why) answer = refusal_status number why ≡ answer
 
 -- The deed of a step was refused, and what waited before and the text of those before it were written; where the answer
--- isn't the run's, a front of what waited and the text of all.
+-- isn't the run's, a part of what waited and the text of all.
 pub record EndsStep (before : Reporting) (file : CaptureFile) (number : ℕ) (step : Step) (state : State)
     (old new : Option (List ℕ)) (answer : TrialStatus) : Type 0 where
   pub deeds : List Deed
@@ -93,4 +105,4 @@ pub record EndsStep (before : Reporting) (file : CaptureFile) (number : ℕ) (st
   pub writes : MatchBool (is_of_run answer)
       (IsRefused number (ran file deeds state).refused answer
       × Appends old new (with_reports before (ran file deeds state).reports).text)
-      (WritesFront old new (with_reports before (ran file deeds state).reports).text)
+      (WritesPart answer before (ran file deeds state).reports old new)

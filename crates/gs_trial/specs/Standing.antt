@@ -1,4 +1,4 @@
--- What a trial stands for: the state of a run over a capture file.
+-- Cited by private contracts alone: what a trial stands for, which is the state of a run over a capture file.
 use Rattle.std.specs.Prelude.{ℕ, ◌≡◌, ◌+◌, ◌<◌, ◌≤◌, ◌⊎◌, length, List, [], ◌∷◌, Option, None, ⊤}
 use Rattle.std.specs.List.{All}
 use Rattle.gs_tape.specs.Tick.{Tick}

@@ -1,4 +1,4 @@
--- What a step of a trial did.
+-- Cited by private contracts alone: what a step of a trial did.
 use Rattle.std.specs.Prelude.{ℕ, ◌≡◌, ◌≤◌, List, Option, Some, None, Result, Ok, Err, IfSome, ⊤}
 use Rattle.gs_bytes.specs.declared.failed.Failed.{Failed}
 use Rattle.gs_bytes.specs.declared.failed.Failed.TheVariants as failed

@@ -12,6 +12,7 @@ use Rattle.gs_schedule.specs.Lines.{lines_of}
 use Rattle.gs_schedule.specs.declared.status.TrialStatus.{TrialStatus}
 use Rattle.gs_schedule.specs.declared.status.TrialStatus.TheVariants as status
 use Rattle.gs_run.specs.CaptureFile.{file_of, generated_file}
+use Rattle.gs_run.specs.Report.{Report, text_of}
 use Rattle.gs_run.specs.Run.{Run, IsRun, run_text}
 use Rattle.gs_run.specs.Generated.{IsGeneratedRun, generated_bytes}
 use Rattle.gs_run.specs.WholeRun.{RunHolds}
@@ -25,16 +26,27 @@ is_of_run status.OutOfMemory = false
 is_of_run (status.Usage word) = false
 is_of_run _ = true
 
+-- the answers of a source of which a read failed
+abbrev pub is_of_source : TrialStatus → Bool
+is_of_source status.TapeFault = true
+is_of_source status.ScheduleFault = true
+is_of_source _ = false
+
 -- a front of a text was written
 abbrev pub WritesFront : Option (List ℕ) → Option (List ℕ) → List ℕ → Type 0
 WritesFront old new text = (n : ℕ) × Appends old new (take n text)
 
--- the whole text of a run that ends with this answer was written, or a front of it where the answer isn't the run's
+-- the text of whole reports was written, of those at the front of all
+abbrev pub WritesReports : Detail → List Report → (old new : Option (List ℕ)) → Type 0
+WritesReports detail reports old new = (n : ℕ) × Appends old new (text_of detail (take n reports))
+
+-- The whole text of a run that ends with this answer was written. Where the answer isn't the run's it is a front of it,
+-- and one of whole reports where a source failed.
 abbrev pub WritesRun : Detail → Run → Option (List ℕ) → Option (List ℕ) → TrialStatus → Type 0
 WritesRun detail run old new answer =
     MatchBool (is_of_run answer)
     ((run.status ≡ answer) × Appends old new (run_text detail run))
-    (WritesFront old new (run_text detail run))
+    (MatchBool (is_of_source answer) (WritesReports detail run.reports old new) (WritesFront old new (run_text detail run)))
 
 -- The run of a schedule with these bytes over the capture file with these. What holds of every run over bytes holds of
 -- it: of what its sessions did behind each deed, and of its lines.
@@ -97,7 +109,7 @@ IsGenerating (Script detail) = ⊥
 IsGenerating (Make generated) = ⊤
 IsGenerating (Tape generated) = ⊤
 
--- ---- how a part of a trial ends
+-- ---- Cited by private contracts alone: how a part of a trial ends
 
 -- An object's count of faults rose where this is the error, and nowhere else.
 abbrev pub CountsFor : TrialStatus → Result ⊤ TrialStatus → ℕ → ℕ → Type 0

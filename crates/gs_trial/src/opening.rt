@@ -12,9 +12,7 @@ use crate::error::StepError;
 use crate::trial::Trial;
 use gs_loopback::Loopback;
 use gs_rtp::Settings;
-
-/// The most sessions that may be opened.
-const MOST_SESSIONS: usize = 8;
+use gs_run::MOST_SESSIONS;
 
 /// The frames a second of every session.
 const FPS: u16 = 60;

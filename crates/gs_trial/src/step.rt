@@ -26,6 +26,7 @@ impl Trial {
         ensures ran { (file : CaptureFile) (state : State) → StandsFor self.old file (S.left tape.old) state
             → StepsIfTold file step.now state (S.left tape.new) self.new self.old.reporter self.new.reporter result }
         ensures not_met { OnOk result (KeepsFlag (S.met_end tape.old) (S.met_end tape.new)) }
+        ensures only_cap { result ≡ Err (StepError.Tape TapeError.TapeFault) → step.now ≡ Step.Cap }
         ensures fault { result ≡ Err (StepError.Tape TapeError.TapeFault) → Rose (S.faults tape.old) (S.faults tape.new) }
         ensures counted { S.faults tape.new ≢ S.faults tape.old → result ≡ Err (StepError.Tape TapeError.TapeFault) }
     {

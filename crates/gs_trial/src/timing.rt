@@ -13,9 +13,7 @@ ghost use Rattle.gs_trial.specs.Stepping.{IsOwn, RunsIn};
 use crate::error::StepError;
 use crate::trial::Trial;
 use gs_bytes::OutOfMemory;
-
-/// The greatest moment, in milliseconds.
-const MOST_MOMENT: u32 = 4_000_000_000;
+use gs_run::MOST_MOMENT;
 
 /// A moment that is so much later, where it isn't beyond the greatest.
 fn later(moment: u32, by: u32) -> Option<u32>

@@ -1,4 +1,3 @@
-use Rattle.gs_trial.proofs.Results.{not_of_run}
 use Rattle.gs_trial.proofs.RunLines.{bad_line, unwritten_line}
 use Rattle.gs_trial.proofs.trial.Trial.end_at.Goals as goal
 
@@ -7,4 +6,4 @@ returns-in-Ok-clause-ends g c = λ state. bad_line c.args.self.now.reporter c.ar
 
 pub returns-in-Err-clause-ends : goal.returns-in-Err-clause-ends
 returns-in-Err-clause-ends g c = λ state.
-    unwritten_line c.args.self.now.reporter c.args.number state _ _ c.in-Err.failed (not_of_run _ c.in-Err.ensures.cause) c.in-Err.ensures.err
+    unwritten_line c.args.self.now.reporter c.args.number state _ _ c.in-Err.failed c.in-Err.ensures.cause c.in-Err.ensures.err

@@ -1,12 +1,14 @@
-use Rattle.std.proofs.Common.{◌∙◌, Ok, Err, refl, sym, ap, subst}
+use Rattle.std.proofs.Common.{◌≡◌, ◌∙◌, ℕ, List, [], Ok, Err, inl, inr, refl, sym, ap, subst}
 use Rattle.std.proofs.lemmas.Result.{err_from_is_err_and}
 use Rattle.gs_bytes.proofs.StreamLemmas.{KeepsFlag-trans}
 use Rattle.gs_schedule.specs.Lines.{LinesState}
 use Rattle.gs_schedule.proofs.Flags.{TellsFlag-refl, TellsFlag-trans, told_then_set}
 use Rattle.gs_trial.proofs.Counting.{counts_none, keeps_flag}
 use Rattle.gs_trial.proofs.Results.{not_of_run}
-use Rattle.gs_trial.proofs.RunLines.{LedOn, ends_long, ends_more, ends_quietly, led_all, led_more, led_start, led_written, none_left}
-use Rattle.gs_trial.proofs.Texts.{front_none, front_part}
+use Rattle.std.specs.Io.KnownBytes.{Appends}
+use Rattle.std.proofs.KnownBytes.{Appends-nil}
+use Rattle.gs_trial.proofs.RunLines.{LedOn, ends_long, ends_more, ends_quietly, led_all, led_more, led_start, led_written, none_left, waiting_part}
+use Rattle.gs_trial.proofs.Texts.{front_none}
 use Rattle.gs_trial.proofs.trial.Trial.run_lines.Goals as goal
 
 pub lines-init : goal.lines-init
@@ -52,7 +54,7 @@ returns-in_err-write_before_line-clause-ends g c =
     let wrote = c.in_err-write_before_line.ensures in
     rw (p.1, p.2) (λ file state bytes stands is.
     ends_quietly c.args.self.now.reporter file bytes state _ _ _ c.lines.lines _ c.lines.self _ c.in_err-write_before_line.field-0.0
-    (not_of_run _ wrote.cause) (front_part _ _ c.lines.self.reporter.text wrote.err) (c.lines.invariant.led file state bytes stands is))
+    (not_of_run _ wrote.cause) (waiting_part c.lines.self.reporter _ _ _ wrote.cause wrote.err) (c.lines.invariant.led file state bytes stands is))
 
 pub returns-in_err-run_line-in-Ok-Some-clause-ends : goal.returns-in_err-run_line-in-Ok-Some-clause-ends
 returns-in_err-run_line-in-Ok-Some-clause-ends g c =
@@ -86,8 +88,13 @@ returns-in-Err-TooLong-clause-ends g c = λ file state bytes stands is.
 pub returns-in-Err-ReadFault-clause-ends : goal.returns-in-Err-ReadFault-clause-ends
 returns-in-Err-ReadFault-clause-ends g c = λ file state bytes stands is.
     let wrote = c.in_ok-write_before_line.ensures in
+    let out = g.K.Outside.written c.write_before_line.new.out in
+    let none : c.write_before_line.new.self.reporter.text ≡ [] = elim wrote.first [
+      | inl held ↦ absurd (c.in-Err-ReadFault.ensures.unheld (ap (λ e. Err e) c.in-Err-ReadFault.field-0-is) held)
+      | inr none ↦ none
+    ] in
     ends_quietly c.args.self.now.reporter file bytes state _ _ _ c.lines.lines _ c.write_before_line.new.self _ _ refl
-    (front_none _ c.write_before_line.new.self.reporter.text)
+    (subst (λ (l : List ℕ). Appends out out l) (sym none) (Appends-nil out))
     (led_written c.args.self.now.reporter file bytes state _ _ _ c.lines.lines _ c.lines.self c.write_before_line.new.self _ wrote.kept wrote.up_to
     (c.lines.invariant.led file state bytes stands is))
 

@@ -1,4 +1,4 @@
-use Rattle.std.proofs.Common.{◌≡◌, ◌∙◌, true, false, refl, sym, ap}
+use Rattle.std.proofs.Common.{◌≡◌, ◌∙◌, true, false, [], Err, refl, sym, ap}
 use Rattle.std.specs.Prelude.{is_some}
 use Rattle.std.proofs.lemmas.Result.{err_from_is_err_and}
 use Rattle.gs_trial.specs.Stepping.{refusal_of}
@@ -6,7 +6,10 @@ use Rattle.gs_trial.proofs.Keeping.{ready_still}
 use Rattle.gs_trial.proofs.Leading.{same_stands}
 use Rattle.gs_trial.proofs.Results.{err_both, not_of_run, on_any, on_more}
 use Rattle.gs_trial.proofs.StepTexts.{ends_after, ends_at, ends_behind_it, ends_part, ends_told, ends_unknown, ran_behind, ran_step}
-use Rattle.gs_trial.proofs.Texts.{front_part}
+use Rattle.gs_tape.specs.declared.error.TapeError.TheVariants as tape_error
+use Rattle.gs_trial.specs.declared.error.StepError.{StepError}
+use Rattle.gs_trial.specs.declared.error.StepError.TheVariants as step_error
+use Rattle.gs_trial.proofs.RunLines.{waiting_part}
 use Rattle.gs_trial.proofs.trial.Trial.run_step.Goals.{then-is_told+in_ok-write_text-in-Err, else-is_told}
 use Rattle.gs_trial.proofs.trial.Trial.run_step.Goals as goal
 
@@ -17,7 +20,7 @@ returns-in_err-write_before_step-clause-ends g c =
     let before = c.args.self.now.reporter in
     rw (p.1, p.2) (λ file state stands.
     ends_unknown before file c.args.number c.args.step.now state _ _ c.in_err-write_before_step.field-0.0 (not_of_run _ wrote.cause)
-    (front_part _ _ before.text wrote.err))
+    (waiting_part before _ _ _ wrote.cause wrote.err))
 
 pub step-requires-clause-ready : goal.step-requires-clause-ready
 step-requires-clause-ready g c = ready_still c.args.self.now c.write_before_step.new.self c.in_ok-write_before_step.ensures.kept c.requires.ready
@@ -33,7 +36,7 @@ returns-in_err-write_text-in-Err-clause-ends g c =
     first.kept.detail first.up_to
     (ends_told c.step.new.self here.reporter file c.args.number c.args.step.now state _ _ _ c.in_err-write_text-in-Err.field-0.0 c.in-Err.error
     (c.in-Err.ensures.ran file state (same_stands c.args.self.now here file _ state first.kept stands))
-    (sym c.is_told.ensures ∙ c.if-is_told.true) (not_of_run _ wrote.cause) wrote.err))
+    (sym c.is_told.ensures ∙ c.if-is_told.true) wrote.cause wrote.err))
 
 pub returns-in-Ok-clause-ran : goal.returns-in-Ok-clause-ran
 returns-in-Ok-clause-ran g c =
@@ -56,7 +59,7 @@ returns-in-Ok-clause-ends g c =
     ends_behind_it c.args.self.now.reporter here.reporter file c.args.number c.args.step.now state _ _ _ answer first.kept.detail first.up_to
     (ends_part c.step.new.self here.reporter file c.args.number c.args.step.now state _ _ _ answer
     (c.in-Ok.ensures.ran file state (same_stands c.args.self.now here file _ state first.kept stands))
-    (not_of_run answer cause) wrote))
+    cause wrote))
     c.write_piece.ensures.err c.write_piece.ensures.cause
 
 pub returns-after-is_told-clause-ends : goal.returns-after-is_told-clause-ends
@@ -65,6 +68,8 @@ returns-after-is_told-clause-ends g c = λ file state stands.
     let first = c.in_ok-write_before_step.ensures in
     let here = c.write_before_step.new.self in
     let ran = c.in-Err.ensures.ran file state (same_stands c.args.self.now here file _ state first.kept stands) in
+    let empty : e ≡ step_error.Tape tape_error.TapeFault → here.reporter.text ≡ [] =
+    λ is. first.first (c.in-Err.ensures.only_cap (ap (λ (x : StepError). Err x) is)) in
     ends_behind_it c.args.self.now.reporter here.reporter file c.args.number c.args.step.now state _ _ _ _ first.kept.detail first.up_to
     (elim c.if-is_told.branch [
       | then-is_told+in_ok-write_text-in-Err w ↦
@@ -72,12 +77,12 @@ returns-after-is_told-clause-ends g c = λ file state stands.
           ends_at here.reporter file c.args.number c.args.step.now state _ _ _ _ _ (ap g.K.Outside.written w.out-is) c.step_status.ensures
           (ends_after c.step.new.self here.reporter file c.args.number c.args.step.now state _ _
           (g.K.Outside.written w.write_text.new.out) e ran
-          (λ _. w.in_ok-write_text-in-Err.ensures.ok) (λ not. absurd (cc (told, not))))
+          (λ _. w.in_ok-write_text-in-Err.ensures.ok) (λ not. absurd (cc (told, not))) empty)
       | else-is_told w ↦
           let not : is_some (refusal_of e) ≡ false = sym c.is_told.ensures ∙ w.if-is_told.false in
           ends_at here.reporter file c.args.number c.args.step.now state _ _ _ _ _ (ap g.K.Outside.written w.out-is) c.step_status.ensures
           (ends_after c.step.new.self here.reporter file c.args.number c.args.step.now state _ _ (g.K.Outside.written c.write_before_step.new.out) e ran
-          (λ told. absurd (cc (told, not))) (λ _. refl))
+          (λ told. absurd (cc (told, not))) (λ _. refl) empty)
     ])
 
 pub returns-in-Ok-clause-ready : goal.returns-in-Ok-clause-ready
