@@ -39,7 +39,12 @@ made_feed number ticks bytes feed left few is opens =
 pub unmade : GeneratedRunsHold → (number ticks : ℕ) → ticks ≤ 2000 → (a : Option (List ℕ)) → AnswersMake number ticks a a status.OutOfMemory
 unmade hold number ticks few a =
     let some = steps_some (generated_file number ticks) 1 (generated_steps ticks) start in
-    record { run = some.0; is_run = some.1; writes = quiet Sums some.0 a status.OutOfMemory refl (front_none a []); holds = hold number ticks some.0 few some.1 }
+    record {
+      run = some.0;
+      is_run = some.1;
+      writes = quiet Sums some.0 a status.OutOfMemory refl (front_none a []);
+      holds = hold number ticks some.0 few some.1;
+    }
 
 ends : GeneratedRunsHold → (number ticks : ℕ) → ticks ≤ 2000 → (a b : Option (List ℕ)) (answer : TrialStatus)
     → EndsRun IsStep (record { detail = Sums; text = [] }) (generated_file number ticks) 1 (generated_steps ticks) start a b answer

@@ -71,7 +71,8 @@ pub waiting_part : (before : Reporting) (a b : Option (List ℕ)) (answer : Tria
 waiting_part before a b answer cause part = waiting_front answer a b before.text (not_of_source answer cause) (front_part a b before.text part)
 
 pub unwritten_line : (before : Reporting) (number : ℕ) (state : State) (a b : Option (List ℕ)) (answer : TrialStatus)
-    → (answer ≡ status.WriteFault) ⊎ (answer ≡ status.OutOfMemory) → AppendsPart a b before.text → WritesBehind before (stopped (status.BadSchedule number) state) a b answer
+    → (answer ≡ status.WriteFault) ⊎ (answer ≡ status.OutOfMemory) → AppendsPart a b before.text
+    → WritesBehind before (stopped (status.BadSchedule number) state) a b answer
 unwritten_line before number state a b answer cause part =
     front_of before (stopped (status.BadSchedule number) state) a b answer (not_of_run answer cause) (waiting_part before a b answer cause part)
 

@@ -174,7 +174,8 @@ ends_told mid here file number step state left a b answer e is told cause part =
     text_is here mid.reporter did.reports (told_text (refusal_of e) did here mid.reporter told s.ran_as) in
     let P = IsRefused number did.refused answer × Appends a b (with_reports here did.reports).text in
     let Q = WritesPart answer here did.reports a b in
-    let front : Q = part_front answer here did.reports a b (not_of_source answer cause) (subst (WritesFront a b) text (front_part a b mid.reporter.text part)) in
+    let front : Q = part_front answer here did.reports a b (not_of_source answer cause)
+    (subst (WritesFront a b) text (front_part a b mid.reporter.text part)) in
     record { deeds = s.deeds; are_deeds = s.are_deeds; writes = subst (λ (x : Bool). MatchBool x P Q) (sym (not_of_run answer cause)) front }
 
 pub ends_at : (here : Reporting) (file : CaptureFile) (number : ℕ) (step : Step) (state : State) (a b b' : Option (List ℕ)) (answer answer' : TrialStatus)

@@ -46,7 +46,9 @@ abbrev pub WritesRun : Detail → Run → Option (List ℕ) → Option (List ℕ
 WritesRun detail run old new answer =
     MatchBool (is_of_run answer)
     ((run.status ≡ answer) × Appends old new (run_text detail run))
-    (MatchBool (is_of_source answer) (WritesReports detail run.reports old new) (WritesFront old new (run_text detail run)))
+    (MatchBool (is_of_source answer)
+    (WritesReports detail run.reports old new)
+    (WritesFront old new (run_text detail run)))
 
 -- The run of a schedule with these bytes over the capture file with these. What holds of every run over bytes holds of
 -- it: of what its sessions did behind each deed, and of its lines.

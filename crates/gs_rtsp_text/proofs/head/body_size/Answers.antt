@@ -22,8 +22,9 @@ returns-in_err-name-clause-within c =
     (counted_stop c.args.kind _ _ _ c.args.bytes.now c.lines.rest.now c.in_err-name.field-0.0 c.lines.invariant line c.in_err-name.ensures))
 
 pub lines-smaller : goal.lines-smaller
-lines-smaller c = header_shorter c.lines.rest.now (record { name = c.in_ok-name.field-0-0.name.now; value = c.in_ok-name.field-0-0.value.now }) c.in_ok-name.behind.now
-    c.in_ok-name.ensures
+lines-smaller c =
+    header_shorter c.lines.rest.now (record { name = c.in_ok-name.field-0-0.name.now; value = c.in_ok-name.field-0-0.value.now })
+    c.in_ok-name.behind.now c.in_ok-name.ensures
 
 pub lines-preserved : goal.lines-preserved
 lines-preserved c =
