@@ -44,8 +44,3 @@ KeepsFlag-trans None b c p q = tt
 KeepsFlag-trans (Some x) None c p q = absurd p
 KeepsFlag-trans (Some x) (Some y) None p q = absurd q
 KeepsFlag-trans (Some x) (Some y) (Some z) p q = q ∙ p
-
--- what holds in any case holds at a failure
-pub on_err : {T E : Type 0} (r : Result T E) (P : Type 0) → P → OnErr r P
-on_err (Ok x) P h = tt
-on_err (Err e) P h = h

@@ -1,6 +1,6 @@
 -- The limits that crates share which don't stand on each other.
 use Rattle.std.specs.Prelude.{ℕ}
-use Rattle.gs_bytes.specs.declared.limits.TheConstants.{MOST_UNIT, MOST_AUDIO, MOST_ON_LINK}
+use Rattle.gs_bytes.specs.declared.limits.TheConstants.{MOST_UNIT, MOST_AUDIO, MOST_ON_LINK, MOST_GENERATED}
 
 -- bytes of one video unit
 abbrev pub most_unit : ℕ
@@ -13,3 +13,7 @@ most_audio = MOST_AUDIO
 -- bytes of one datagram on a link
 abbrev pub most_on_link : ℕ
 most_on_link = MOST_ON_LINK
+
+-- ticks of a generated capture
+abbrev pub most_generated : ℕ
+most_generated = MOST_GENERATED

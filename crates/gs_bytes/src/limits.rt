@@ -8,3 +8,6 @@ pub const MOST_AUDIO: u16 = 1_400;
 
 /// Bytes of one datagram on a link.
 pub const MOST_ON_LINK: usize = 4_096;
+
+/// Ticks of a generated capture.
+pub const MOST_GENERATED: u32 = 2_000;

@@ -3,13 +3,14 @@ use Rattle.std.specs.Prelude.{ℕ, ◌≡◌, ◌+◌, Bool, ◌&&◌, ◌||◌,
 use Rattle.std.specs.Prelude.{Err, ⊤, is_some, nat_eq, ◌==◌, if◌then◌else◌, codes}
 use Rattle.std.specs.Option.{option_map}
 use Rattle.std.specs.Cmp.Lexicographic.{pointwise}
+use Rattle.gs_bytes.specs.Limits.{most_generated}
 use Rattle.gs_bytes.specs.Numbers.{decimal_up_to}
 use Rattle.gs_command.specs.declared.command.TrialCommand.{TrialCommand}
 use Rattle.gs_command.specs.declared.command.TrialCommand.TheVariants.{Script, Make, Tape}
 use Rattle.gs_command.specs.declared.command.Detail.{Detail}
 use Rattle.gs_command.specs.declared.command.Detail.TheVariants.{Bytes, Brief}
 use Rattle.gs_command.specs.declared.command.Generated.{Generated}
-use Rattle.gs_command.specs.declared.limits.TheConstants.{MOST_NUMBER, MOST_GENERATED}
+use Rattle.gs_command.specs.declared.limits.TheConstants.{MOST_NUMBER}
 
 -- ---- single words
 
@@ -43,7 +44,7 @@ abbrev pub script_places : Places
 script_places = (λ w. is_some (detail_of w)) ∷ is_name ∷ is_name ∷ []
 
 abbrev pub ticks_places : Places
-ticks_places = (λ w. is_some (number_of MOST_GENERATED w)) ∷ []
+ticks_places = (λ w. is_some (number_of most_generated w)) ∷ []
 
 abbrev pub generated_places : Places
 generated_places = (λ w. is_some (number_of MOST_NUMBER w)) ∷ ticks_places
@@ -72,7 +73,7 @@ generated_by _ _ = None
 
 -- said by the words behind `make` and `tape`
 abbrev pub ticks_of : List (List ℕ) → Option ℕ
-ticks_of (ticks ∷ []) = number_of MOST_GENERATED ticks
+ticks_of (ticks ∷ []) = number_of most_generated ticks
 ticks_of _ = None
 
 abbrev pub generated_of : List (List ℕ) → Option Generated

@@ -15,5 +15,6 @@ mod read;
 mod tests;
 
 pub use command::{Detail, Generated, TrialCommand};
-pub use limits::{MOST_GENERATED, MOST_NUMBER};
+pub use gs_bytes::MOST_GENERATED;
+pub use limits::MOST_NUMBER;
 pub use read::read_command;

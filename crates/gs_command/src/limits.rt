@@ -1,7 +1,4 @@
-//! The numbers of a generated capture.
+//! The numbers of a generated capture. How many ticks it has at most is of `gs_bytes`.
 
 /// The greatest number of a generated capture.
 pub const MOST_NUMBER: u32 = u32::MAX;
-
-/// The most ticks of a generated capture.
-pub const MOST_GENERATED: u32 = 2000;

@@ -4,8 +4,8 @@ ghost use Rattle.std.specs.Prelude.{◌≡◌, [], ◌∷◌, map, string_bytes}
 ghost use Rattle.gs_command.specs.Words.{Reads, ReadsFrom, FitsFrom, number_of, detail_of, is_name, script_places, script_of, generated_places, generated_of, ticks_places, ticks_of};
 
 use crate::command::{Detail, Generated, TrialCommand};
-use crate::limits::{MOST_GENERATED, MOST_NUMBER};
-use gs_bytes::parse_number;
+use crate::limits::MOST_NUMBER;
+use gs_bytes::{MOST_GENERATED, parse_number};
 
 // A number from 1 up to another.
 fn number_in(word: &[u8], most: u32) -> Option<u32>

@@ -1,5 +1,7 @@
 // The limits of a stream's settings, and of the heads of its datagrams.
 
+use gs_rs::MAX_SHARDS;
+
 /// The least packet size, in bytes.
 pub const PACKET_LEAST: u16 = 1_024;
 
@@ -40,7 +42,7 @@ pub const LAST_BLOCK_GREATEST: u8 = 3;
 pub const SHARDS_GREATEST: u16 = 1_023;
 
 /// The greatest number of data and parity shards of a block that has parity.
-pub const CODE_SHARDS_GREATEST: u32 = 255;
+pub const CODE_SHARDS_GREATEST: u32 = MAX_SHARDS as u32;
 
 /// How many units a block of audio has.
 pub const AUDIO_BLOCK_UNITS: u32 = 4;

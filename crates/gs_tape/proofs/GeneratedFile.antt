@@ -9,7 +9,7 @@ use Rattle.std.proofs.lemmas.Bool.{cases_eq}
 use Rattle.std.proofs.lemmas.List.{take-append-le}
 use Rattle.std.proofs.lemmas.List.Sums.{sum_by-cons}
 use Rattle.gs_bytes.specs.Outside.{AppendsPart}
-use Rattle.gs_bytes.proofs.StreamLemmas.{on_err}
+use Rattle.gs_bytes.proofs.Cases.{on_err}
 use Rattle.gs_tape.specs.Capture.{head, tick, file}
 use Rattle.gs_tape.specs.Tick.{Tick, unit_bytes}
 use Rattle.gs_tape.specs.Limits.{most_bytes, IsWithinLimits, AreWithinLimits, AreWritable}

@@ -26,7 +26,8 @@ use Rattle.gs_trial.specs.Standing.{AreSessions, IsFeedOf, StandsFor}
 use Rattle.gs_trial.specs.Trial.{is_of_run}
 use Rattle.gs_trial.specs.Running.{EndsRun, EndsStep, IsRefused, IsSameButText, Leads, LedTo, WritesBehind, WritesPart, WritesUpTo, WritesWaiting}
 use Rattle.gs_run.proofs.SomeRun.{lines_some}
-use Rattle.gs_trial.proofs.Texts.{all_behind, match_more, more_text, part_longer, part_of, part_on, up_to_none, with_none}
+use Rattle.gs_bytes.proofs.Cases.{match_more}
+use Rattle.gs_trial.proofs.Texts.{all_behind, more_text, part_longer, part_of, part_on, up_to_none, with_none}
 
 -- ---- what was run
 

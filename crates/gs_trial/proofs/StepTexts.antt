@@ -27,7 +27,8 @@ use Rattle.gs_trial.specs.Trial.{WritesFront, is_of_run}
 use Rattle.gs_trial.proofs.Leading.{same_stands}
 use Rattle.gs_trial.proofs.Results.{not_of_run, not_of_source}
 use Rattle.gs_run.proofs.SomeRun.{deeds_of}
-use Rattle.gs_trial.proofs.Texts.{all_behind, front_none, front_part, match_more, part_front, part_of, part_on, up_to_more, with_none}
+use Rattle.gs_bytes.proofs.Cases.{match_more}
+use Rattle.gs_trial.proofs.Texts.{all_behind, front_none, front_part, part_front, part_of, part_on, up_to_more, with_none}
 
 -- what waits now is what waited before the step, and the text of its reports
 text_is : (here now : Reporting) (reports : List Report) → now ≡ with_reports here reports → now.text ≡ (with_reports here reports).text

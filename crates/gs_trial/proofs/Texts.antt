@@ -9,16 +9,13 @@ use Rattle.std.proofs.Math.Seq.{take-append_seam, take-append-add, take-length}
 use Rattle.std.proofs.lemmas.List.{take-append-le, take_all}
 use Rattle.std.proofs.lemmas.Bool.{cases_lt}
 use Rattle.gs_bytes.specs.Outside.{AppendsPart}
+use Rattle.gs_bytes.proofs.Cases.{match_more}
 use Rattle.gs_command.specs.declared.command.Detail.{Detail}
 use Rattle.gs_run.specs.Report.{Report, report_text, text_of}
 use Rattle.gs_report.specs.Reporting.{Reporting, with_reports}
 use Rattle.gs_schedule.specs.declared.status.TrialStatus.{TrialStatus}
 use Rattle.gs_trial.specs.Trial.{WritesFront, is_of_source}
 use Rattle.gs_trial.specs.Running.{WritesPart, WritesUpTo, WritesWaiting}
-
-pub match_more : (b : Bool) (P Q P' Q' : Type 0) → (P → P') → (Q → Q') → MatchBool b P Q → MatchBool b P' Q'
-match_more true P Q P' Q' p q m = p m
-match_more false P Q P' Q' p q m = q m
 
 pub text-append : (detail : Detail) (xs ys : List Report) → text_of detail (xs ++ ys) ≡ text_of detail xs ++ text_of detail ys
 text-append detail xs ys = flat_map-append (report_text detail) xs ys

@@ -1,7 +1,7 @@
 use Rattle.std.proofs.Common.{◌++◌, ◌≤◌, arith, length, length-append, length-take, take, ℕ}
 use Rattle.std.proofs.KnownBytes.{Appends-trans, Consumes-trans}
 use Rattle.gs_bytes.specs.Told.{told, TakesUpTo}
-use Rattle.gs_bytes.proofs.StreamLemmas.{on_err}
+use Rattle.gs_bytes.proofs.Cases.{on_err}
 use Rattle.gs_bytes.proofs.whole.read_up_to.Goals as goal
 
 pub returns-in_err-extend_from_slice-clause-err : goal.returns-in_err-extend_from_slice-clause-err

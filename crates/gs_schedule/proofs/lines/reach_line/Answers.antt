@@ -1,12 +1,8 @@
-use Rattle.std.proofs.Common.{rules, ◌≤◌, length, subst, ap, arith, Result, Ok, Err}
-use Rattle.std.specs.Prelude.{OnErr}
+use Rattle.std.proofs.Common.{rules, ◌≤◌, length, subst, ap, arith}
+use Rattle.gs_bytes.proofs.Cases.{on_err}
 use Rattle.gs_schedule.specs.Lines.{IsUnbroken, most_line}
 use Rattle.gs_schedule.proofs.LineText.{no_line_held}
 use Rattle.gs_schedule.proofs.lines.reach_line.Goals as goal
-
-at_error : {T E : Type 0} (r : Result T E) (P : Type 0) → P → OnErr r P
-at_error (Ok x) P p = tt
-at_error (Err e) P p = p
 
 pub returns-in_err-fill-clause-held : goal.returns-in_err-fill-clause-held
 returns-in_err-fill-clause-held g c =
@@ -18,7 +14,7 @@ pub returns-in_err-fill-clause-unheld : goal.returns-in_err-fill-clause-unheld
 returns-in_err-fill-clause-unheld g c =
     let unbroken : IsUnbroken c.fills.held = subst IsUnbroken c.bytes.ensures c.in_default.ensures.none in
     let few : length c.fills.held ≤ most_line = omega (arith, ap length c.bytes-length.ensures, c.if-length-gt-MOST_LINE.false) in
-    at_error c.from_residual.result _ (λ held. no_line_held c.fills.held unbroken few (c.fills.invariant.held held).0)
+    on_err c.from_residual.result _ (λ held. no_line_held c.fills.held unbroken few (c.fills.invariant.held held).0)
 
 pub returns-then-not-branch-clause-held : goal.returns-then-not-branch-clause-held
 returns-then-not-branch-clause-held g c =

@@ -1,7 +1,7 @@
 use Rattle.std.proofs.Common.{◌∙◌, subst, List, ℕ}
 use Rattle.std.specs.Io.KnownBytes.{Appends}
 use Rattle.gs_bytes.specs.Outside.{AppendsPart}
-use Rattle.gs_bytes.proofs.StreamLemmas.{on_err}
+use Rattle.gs_bytes.proofs.Cases.{on_err}
 use Rattle.gs_tape.proofs.writer.TapeWriter.put.Goals as goal
 
 pub returns-in_err-write_part-clause-err : goal.returns-in_err-write_part-clause-err
