@@ -1,11 +1,11 @@
 -- What a client is, and what it was given.
 use Rattle.std.specs.Prelude.{ℕ, ◌≤◌, List, map}
 use Rattle.gs_rtp.specs.Stream.{StreamSettings}
-use Rattle.gs_frames.specs.declared.window.TheConstants.{WINDOW_GREATEST}
+use Rattle.gs_frames.specs.declared.window.TheConstants.{WINDOW_GREATEST, WINDOW_LEAST}
 
 -- a window has one frame at least, and at most four
 abbrev pub least_window : ℕ
-least_window = 1
+least_window = WINDOW_LEAST
 
 abbrev pub most_window : ℕ
 most_window = WINDOW_GREATEST

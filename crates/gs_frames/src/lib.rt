@@ -35,4 +35,4 @@ pub use laws::{
 };
 pub use range::Range;
 pub use verdict::{Added, Shape, Why};
-pub use window::WINDOW_GREATEST;
+pub use window::{WINDOW_GREATEST, WINDOW_LEAST};

@@ -1,6 +1,7 @@
 -- What remains of a generated file.
 use Rattle.std.specs.Prelude.{ℕ, ◌≡◌, ◌≤◌, Bool, true, false, List, [], ◌∷◌, ◌++◌, drop, Option, Some, None}
 use Rattle.std.specs.List.{flat_map}
+use Rattle.gs_tape.specs.Limits.{most_generated}
 use Rattle.gs_tape.specs.Tick.{Tick}
 use Rattle.gs_tape.specs.Capture as capture
 use Rattle.gs_tape.specs.Generated.{generated, to_come}
@@ -27,7 +28,7 @@ bytes_left false u = flat_map capture.tick (ticks_left u) ++ 0x45 ∷ []
 
 -- The first of the generated ticks are spelled, and the others are left.
 pub record IsSound (u : Unspelled) : Type 0 where
-  pub few : u.ticks ≤ 2000
+  pub few : u.ticks ≤ most_generated
   pub left : ticks_left u ≡ drop u.spelled (generated u.number u.ticks)
 
 -- a part is read no further than its end

@@ -3,6 +3,7 @@
 ghost use Rattle.std.specs.Prelude.{◌≡◌, ◌≤◌, IfOk};
 ghost use Rattle.gs_tape.specs.Generated.{generated};
 ghost use Rattle.gs_tape.specs.Capture.{file};
+ghost use Rattle.gs_tape.specs.Limits.{generated_audio, generated_duration, most_generated};
 ghost use Rattle.gs_generated.specs.Remaining.{IsWhole};
 
 use crate::parts::Parts;
@@ -32,8 +33,8 @@ impl Model for GeneratedFile {
 impl GeneratedFile {
     /// The file of so many ticks that a number generates, of which nothing was read.
     pub fn open(alloc: Global, number: u32, ticks: u32) -> Result<GeneratedFile, OutOfMemory>
-        requires { ticks ≤ 2000 }
-        ensures { IfOk result (λ opened. opened.left ≡ file 240 5 (generated number ticks)) }
+        requires { ticks ≤ most_generated }
+        ensures { IfOk result (λ opened. opened.left ≡ file generated_audio generated_duration (generated number ticks)) }
     {
         let parts = Parts {
             part: file_head(alloc)?,

@@ -6,12 +6,9 @@ ghost use Rattle.byteorder.specs.Endian.{little_bytes};
 ghost use Rattle.gs_tape.specs.Capture as capture;
 
 use gs_bytes::{OutOfMemory, write_u32_le};
-use gs_tape::{Delta, Tick, Unit};
+use gs_tape::{Delta, TICK_TAG, Tick, Unit};
 use std::alloc::Global;
 use std::collections::VecDeque;
-
-// What begins a tick.
-const TICK_TAG: u8 = 0x54;
 
 fn put_u32(bytes: &mut Vec<u8>, value: u32) -> Result<(), OutOfMemory>
     ensures { OnOk result (bytes.new.items ≡ bytes.old.items ++ little_bytes 4 value) }

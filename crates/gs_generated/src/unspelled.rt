@@ -4,22 +4,14 @@ ghost use Rattle.std.specs.Prelude.{◌≡◌, ◌++◌, ◌≤◌, ◌<◌, [],
 ghost use Rattle.std.specs.List.{concat};
 ghost use Rattle.gs_tape.specs.Generated.{generated};
 ghost use Rattle.gs_tape.specs.Capture.{head};
+ghost use Rattle.gs_tape.specs.Limits.{generated_audio, generated_duration, most_generated};
 ghost use Rattle.gs_generated.specs.Remaining.{IsSound, ticks_left, bytes_left};
 
 use crate::tick_parts::parts_of;
 use gs_bytes::{OutOfMemory, SureSink};
-use gs_tape::{Generator, TapeWriter, Tick, Unit};
+use gs_tape::{END_TAG, GENERATED_AUDIO, GENERATED_DURATION, Generator, TapeWriter, Tick, Unit};
 use std::alloc::Global;
 use std::collections::VecDeque;
-
-/// The length of an audio unit of a generated file, in bytes.
-const AUDIO: u16 = 240;
-
-/// The duration of an audio unit of a generated file, in milliseconds.
-const DURATION: u8 = 5;
-
-/// The mark behind the last tick.
-const END_MARK: u8 = 0x45;
 
 /// The ticks that aren't spelled yet, and the end mark.
 #[derive(Drop)]
@@ -42,10 +34,10 @@ pub(crate) struct Piece {
 
 /// The head of a generated file.
 pub(crate) fn file_head(alloc: Global) -> Result<Unit, OutOfMemory>
-    ensures { IfOk result (λ bytes. bytes ≡ head 240 5) }
+    ensures { IfOk result (λ bytes. bytes ≡ head generated_audio generated_duration) }
 {
     let mut bytes = SureSink::new(alloc, usize::MAX)?;
-    if TapeWriter::open(alloc, AUDIO, DURATION, &mut bytes).is_err() {
+    if TapeWriter::open(alloc, GENERATED_AUDIO, GENERATED_DURATION, &mut bytes).is_err() {
         return Err(OutOfMemory);
     }
     Unit::copy_of(alloc, bytes.written())
@@ -54,7 +46,7 @@ pub(crate) fn file_head(alloc: Global) -> Result<Unit, OutOfMemory>
 impl Unspelled {
     /// The file of so many ticks that a number generates, of which no tick is spelled.
     pub(crate) fn of(number: u32, ticks: u32) -> Unspelled
-        requires { ticks ≤ 2000 }
+        requires { ticks ≤ most_generated }
         ensures sound { IsSound result }
         ensures all { ticks_left result ≡ generated number ticks }
     {
@@ -109,7 +101,7 @@ fn end_piece(alloc: Global) -> Result<Piece, OutOfMemory>
     ensures last { IfOk result (λ piece. piece.is_last ≡ true) }
 {
     let mut parts = VecDeque::new(alloc);
-    parts.push_back(Unit::copy_of(alloc, &[END_MARK])?)?;
+    parts.push_back(Unit::copy_of(alloc, &[END_TAG])?)?;
     Ok(Piece {
         parts,
         is_last: true,

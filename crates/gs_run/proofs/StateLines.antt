@@ -15,7 +15,7 @@ use Rattle.gs_run.specs.Scene.{Scene, scene_of}
 use Rattle.gs_run.specs.Deed.{SessionDeed, Deed, Open, Capture, Pass, In}
 use Rattle.gs_run.specs.Connection.{settled}
 use Rattle.gs_run.specs.Hearing.{timed}
-use Rattle.gs_run.specs.Opening.{opened, opened_part, settings_of}
+use Rattle.gs_run.specs.Opening.{client_of, opened, opened_part, settings_of}
 use Rattle.gs_run.specs.Refusal.{Refusal, refusal}
 use Rattle.gs_run.specs.Done.{done_in, settled_in, after_in, all_timed, after, unless_refused, ran_on, ran}
 use Rattle.gs_run.specs.ReportLaws.{session_of, lines_of, over_parts, is_hand, is_ask, is_play, RunsReport, RunsReportHanded, RunsReportAsked, RunsReportPlayed}
@@ -231,7 +231,7 @@ unfolding after opened
 after_lines kind give tells file (Open packet percentage minimum window) state reports are = opens where
   opens : (n : ℕ) → lines_of kind n (reports ++ []) ≡ given_at give n (session_numbered (record state {
     sessions = state.sessions ++ record {
-      part = opened_part (length state.sessions + 1) state.moment (settings_of file (length state.sessions + 1) packet percentage minimum window);
+      part = opened_part (length state.sessions + 1) state.moment (client_of (settings_of file (length state.sessions + 1) packet percentage minimum) window);
       earlier = [];
     } ∷ [];
   }) n)
@@ -239,8 +239,8 @@ after_lines kind give tells file (Open packet percentage minimum window) state r
   opens (suc j) =
       ap (lines_of kind (suc j)) (append-nil reports) ∙ are (suc j)
       ∙ sym (pushed_given give (suc j) j state.sessions _
-      (tells.opens (suc j) (length state.sessions + 1) state.moment (settings_of file
-      (length state.sessions + 1) packet percentage minimum window)))
+      (tells.opens (suc j) (length state.sessions + 1) state.moment
+      (client_of (settings_of file (length state.sessions + 1) packet percentage minimum) window)))
 after_lines kind give tells file Capture state reports are = λ n. ap (lines_of kind n) (append-nil reports) ∙ on n where
   on : (n : ℕ) → lines_of kind n reports ≡ given_at give n (session_numbered (record state { captured = state.captured + 1 }) n)
   on zero = are zero

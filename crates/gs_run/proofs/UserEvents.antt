@@ -25,7 +25,7 @@ use Rattle.gs_run.specs.Deed.{SessionDeed, Turn, TakeVideo, TakeAudio, TakeUp, T
 use Rattle.gs_run.specs.Deed as deed
 use Rattle.gs_run.specs.Connection.{both_written_out, with_owed, settled}
 use Rattle.gs_run.specs.Hearing.{up_taken, down_taken, timed}
-use Rattle.gs_run.specs.Opening.{new_part, opened_part, opened, settings_of}
+use Rattle.gs_run.specs.Opening.{client_of, new_part, opened_part, opened, settings_of}
 use Rattle.gs_run.specs.Streaming.{turned, with_video_if, video_taken, with_audio_if, audio_taken, reset}
 use Rattle.gs_run.specs.Giving.{given, closed}
 use Rattle.gs_run.specs.Pump.{marked}
@@ -256,7 +256,7 @@ after_given file zero c (Open packet percentage minimum window) state apart test
 after_given file (suc j) c (Open packet percentage minimum window) state apart test =
     let number = length state.sessions + 1 in
     pushed_given c j state.sessions _
-    (opened_given c number state.moment (settings_of file number packet percentage minimum window) apart)
+    (opened_given c number state.moment (client_of (settings_of file number packet percentage minimum) window) apart)
     ∙ sym (append-nil (given_at c (slice_get state.sessions j)))
 after_given file zero c Capture state apart test = refl
 after_given file (suc j) c Capture state apart test = sym (append-nil (given_at c (slice_get state.sessions j)))

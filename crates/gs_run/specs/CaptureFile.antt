@@ -3,6 +3,7 @@ use Rattle.std.specs.Prelude.{ℕ, List, Option, Some, None, Result, Ok, Err, le
 use Rattle.gs_tape.specs.Tick.{Tick}
 use Rattle.gs_tape.specs.Reading.{Fault, Head, head_at, ticks_of, first_fault, audio_length, audio_duration}
 use Rattle.gs_tape.specs.Generated.{generated}
+pub use Rattle.gs_tape.specs.Limits.{generated_audio, generated_duration}
 
 -- Its head, which may have a fault; the length in bytes and the duration in ms of its audio units; its ticks, and the
 -- fault behind them where there is one.
@@ -26,13 +27,6 @@ file_of bytes = record {
   ticks = ticks_of bytes;
   fault = first_fault bytes;
 }
-
--- what is generated has audio units of 240 bytes and 5 ms
-abbrev pub generated_audio : ℕ
-generated_audio = 240
-
-abbrev pub generated_duration : ℕ
-generated_duration = 5
 
 -- the file of so many ticks that a number generates
 abbrev pub generated_file : ℕ → ℕ → CaptureFile

@@ -1,10 +1,11 @@
 -- How a session is opened.
 use Rattle.std.specs.Prelude.{ℕ, ◌+◌, ◌-◌, ◌&&◌, Bool, [], ◌∷◌, ◌++◌, length, nat_le}
 use Rattle.gs_rtp.specs.Limits.{least_packet, most_packet, most_percentage, most_minimum}
+use Rattle.gs_rtp.specs.Stream.{StreamSettings}
 use Rattle.gs_frames.specs.Client.{ClientSettings, least_window, most_window}
 use Rattle.gs_enet.specs.Record.{PeerRecord, connecting, accepting}
 use Rattle.gs_enet.specs.Sides.{new_side}
-use Rattle.gs_run.specs.declared.limits.TheConstants.{MOST_SESSIONS}
+use Rattle.gs_run.specs.declared.limits.TheConstants.{MOST_SESSIONS, SESSION_FPS}
 use Rattle.gs_run.specs.CaptureFile.{CaptureFile}
 use Rattle.gs_run.specs.Session.{Part, State}
 use Rattle.gs_run.specs.Connection.{both_written_out, settled}
@@ -21,20 +22,21 @@ are_settings packet percentage minimum window =
     && nat_le percentage most_percentage && nat_le minimum most_minimum
     && nat_le least_window window && nat_le window most_window
 
--- sixty frames a second, and the audio of the capture file
-abbrev pub settings_of : CaptureFile → (ssrc packet percentage minimum window : ℕ) → ClientSettings
-settings_of file ssrc packet percentage minimum window = record {
-  stream = record {
-    packet = packet;
-    percentage = percentage;
-    minimum = minimum;
-    fps = 60;
-    duration = file.duration;
-    audio = file.audio;
-    ssrc = ssrc;
-  };
-  window = window;
+-- a stream with the frames a second of every session, and the audio of the capture file
+abbrev pub settings_of : CaptureFile → (ssrc packet percentage minimum : ℕ) → StreamSettings
+settings_of file ssrc packet percentage minimum = record {
+  packet = packet;
+  percentage = percentage;
+  minimum = minimum;
+  fps = SESSION_FPS;
+  duration = file.duration;
+  audio = file.audio;
+  ssrc = ssrc;
 }
+
+-- its client, with a window of so many frames
+abbrev pub client_of : StreamSettings → ℕ → ClientSettings
+client_of stream window = record { stream = stream; window = window }
 
 -- The client has the id 0, and the connection is named by the number of the stream, which its data is too. The host's
 -- side is made by the client's CONNECT. The marks of the control datagrams stand behind the three that open it.
@@ -61,7 +63,7 @@ opened_part session now settings =
 unfoldable pub opened : CaptureFile → (packet percentage minimum window : ℕ) → State → State
 opened file packet percentage minimum window state =
     let number = length state.sessions + 1 in
-    let settings = settings_of file number packet percentage minimum window in
+    let settings = client_of (settings_of file number packet percentage minimum) window in
     record state {
       sessions = state.sessions
           ++ record { part = opened_part number state.moment settings; earlier = [] } ∷ [];

@@ -3,6 +3,7 @@
 use Rattle.std.specs.Prelude.{ℕ, ◌≡◌, ◌^◌, ◌<◌, ◌≤◌, Bool, true, false, List, [], ◌∷◌, ◌++◌, map, take}
 use Rattle.std.specs.Prelude.{Option, Some, None}
 use Rattle.std.specs.List.{All, AllByRecursion, Contains, flat_map}
+use Rattle.gs_tape.specs.Limits.{most_generated}
 use Rattle.gs_tape.specs.Tick.{Tick}
 use Rattle.gs_refs.specs.declared.entry.Entry.{Entry}
 use Rattle.gs_enet.specs.declared.event.PeerEvent.{PeerEvent}
@@ -178,7 +179,7 @@ abbrev pub BytesAreCaptures : Type 0
 BytesAreCaptures = (bytes : List ℕ) → All (λ b. b < 2 ^ 8) bytes → IsCaptureUnlessFaulty (file_of bytes)
 
 abbrev pub GeneratedFilesAreCaptures : Type 0
-GeneratedFilesAreCaptures = (number ticks : ℕ) → ticks ≤ 2000 → IsCapture (generated_file number ticks)
+GeneratedFilesAreCaptures = (number ticks : ℕ) → ticks ≤ most_generated → IsCapture (generated_file number ticks)
 
 -- it holds of every run of lines, and of every run of steps whose events are such as lines have
 abbrev pub RunsHold : Type 0
@@ -200,4 +201,4 @@ RunsOverBytesHold =
 abbrev pub GeneratedRunsHold : Type 0
 GeneratedRunsHold =
     (number ticks : ℕ) (run : Run)
-    → ticks ≤ 2000 → IsGeneratedRun number ticks run → RunHolds (generated_file number ticks) run
+    → ticks ≤ most_generated → IsGeneratedRun number ticks run → RunHolds (generated_file number ticks) run

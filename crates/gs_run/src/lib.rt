@@ -19,4 +19,4 @@ pub use laws::{
     runs_tell_in_order, runs_tell_users, schedules_have_a_run, schedules_have_one_run,
     whole_runs_hold,
 };
-pub use limits::{MOST_MADE, MOST_MOMENT, MOST_SESSIONS};
+pub use limits::{MOST_MADE, MOST_MOMENT, MOST_SESSIONS, SESSION_FPS};

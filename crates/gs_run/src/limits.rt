@@ -10,3 +10,6 @@ pub const MOST_MOMENT: u32 = 4_000_000_000;
 
 /// The most sessions. A further one isn't opened.
 pub const MOST_SESSIONS: usize = 8;
+
+/// The frames a second of every session.
+pub const SESSION_FPS: u16 = 60;

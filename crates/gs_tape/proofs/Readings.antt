@@ -136,7 +136,7 @@ pub record AreDeltas (n above below held : ℕ) (rest : List ℕ) (x : List Delt
   pub bytes : AreBytes x.1.1
 
 pub deltas_give : (n size number before held : ℕ) (rest : List ℕ) → held ≤ most_bytes → AreBytes rest
-    → Gives (AreDeltas n before number held rest) (deltas_at n size number before held rest)
+    → Gives (AreDeltas n before number held rest) (deltas_at n size (record { number = number; named = before; held = held }) rest)
 unfolding deltas_at
 deltas_give zero size number before held rest few are = record {
   count = refl;
@@ -157,7 +157,8 @@ deltas_give (suc n) size number before held rest few are =
     (λ e. let parts = or_parts (nat_le named.0 before) (nat_le number named.0) e in (leb-false named.0 before parts.0, leb-false number named.0 parts.1, refl)))
     (λ left is.
     gives_then (IsUnit held left) D (unit_at size number held left) _ (unit_gives size number held left (subst AreBytes (sym is.2) read.bytes)) (λ u whole.
-    gives_then (AreDeltas n named.0 number (held + length u.0) u.1) D (deltas_at n size number named.0 (held + length u.0) u.1) _
+    gives_then (AreDeltas n named.0 number (held + length u.0) u.1) D
+    (deltas_at n size (record { number = number; named = named.0; held = held + length u.0 }) u.1) _
     (deltas_give n size number named.0 (held + length u.0) u.1 whole.room whole.bytes) (λ others more.
     let d : Delta = record { named = named.0; unit = u.0 } in
     record {

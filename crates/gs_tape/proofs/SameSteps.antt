@@ -60,9 +60,10 @@ abbrev with_sum : ℕ → List Delta × List ℕ → Result (List Delta × (ℕ 
 with_sum held y = Ok (y.0, (held + sum_by (λ d. length d.unit) y.0, y.1))
 
 one_more : (n tick held size k : ℕ) (u behind : List ℕ)
-    → ((deltas n tick k (held + length u) size behind >>= with_sum (held + length u)) ≡ deltas_at n size tick k (held + length u) behind)
+    → ((deltas n tick k (held + length u) size behind >>= with_sum (held + length u))
+    ≡ deltas_at n size (record { number = tick; named = k; held = held + length u }) behind)
     → (then_read (deltas n tick k (held + length u)) (λ ds. gives (record { named = k; unit = u } ∷ ds)) size behind >>= with_sum held)
-    ≡ (deltas_at n size tick k (held + length u) behind >>= (λ o. Ok (record { named = k; unit = u } ∷ o.0, o.1)))
+    ≡ (deltas_at n size (record { number = tick; named = k; held = held + length u }) behind >>= (λ o. Ok (record { named = k; unit = u } ∷ o.0, o.1)))
 unfolding gives
 one_more n tick held size k u behind before =
     let d : Delta = record { named = k; unit = u } in
@@ -77,7 +78,7 @@ one_more n tick held size k u behind before =
     ∙ ap (λ (x : Result (List Delta × (ℕ × List ℕ)) Fault). x >>= add) before
 
 pub deltas_same : (n tick after held size : ℕ) (rest : List ℕ)
-    → (deltas n tick after held size rest >>= with_sum held) ≡ deltas_at n size tick after held rest
+    → (deltas n tick after held size rest >>= with_sum held) ≡ deltas_at n size (record { number = tick; named = after; held = held }) rest
 unfolding deltas deltas_at gives
 deltas_same zero tick after held size rest =
     let none : held + 0 ≡ held = omega arith in
@@ -172,7 +173,7 @@ behind : (size audio : ℕ) (before : Before) (t heard count : ℕ) (idr rest : 
     → (then_read (deltas count before.number 0 (before.held + heard * audio + length idr)) (λ ds.
     then_read (sounds heard audio) (λ us. gives (record { number = before.number; time = t; idr = idr; deltas = ds; audio = us }))) size rest
     >>= with_held before.held)
-    ≡ (deltas_at count size before.number 0 (before.held + heard * audio + length idr) rest >>= (λ ds.
+    ≡ (deltas_at count size (record { number = before.number; named = 0; held = before.held + heard * audio + length idr }) rest >>= (λ ds.
     audio_at heard size audio ds.1.1 >>= (λ us.
     Ok (record { number = before.number; time = t; idr = idr; deltas = ds.0; audio = us.0 }, (ds.1.0, us.1)))))
 behind size audio before t heard count idr rest =

@@ -136,7 +136,7 @@ tick_gives size audio before rest most are =
     gives_then (IsUnit (before.held + sounds.0 * audio) counted) T (unit_at size before.number (before.held + sounds.0 * audio) counted) _
     (unit_gives size before.number (before.held + sounds.0 * audio) counted (subst AreBytes (sym hk.1) hc.bytes)) (λ idr hi.
     gives_then (AreDeltas count.0 0 before.number (before.held + sounds.0 * audio + length idr.0) idr.1) T
-    (deltas_at count.0 size before.number 0 (before.held + sounds.0 * audio + length idr.0) idr.1) _
+    (deltas_at count.0 size (record { number = before.number; named = 0; held = before.held + sounds.0 * audio + length idr.0 }) idr.1) _
     (deltas_give count.0 size before.number 0 (before.held + sounds.0 * audio + length idr.0) idr.1 hi.room hi.bytes) (λ deltas hd.
     gives_then (AreSounds sounds.0 audio deltas.1.1) T (audio_at sounds.0 size audio deltas.1.1) _ (sounds_give sounds.0 size audio deltas.1.1 hd.bytes)
     (λ units hu.

@@ -51,7 +51,7 @@ unit_read size number held bytes rest most room =
 
 pub deltas_read : (size number above held : ℕ) (ds : List Delta) (rest : List ℕ) → number ≤ most_ticks → AreDeltasBetween above number ds
     → held + delta_bytes ds ≤ most_bytes
-    → deltas_at (length ds) size number above held (flat_map delta ds ++ rest) ≡ Ok (ds, (held + delta_bytes ds, rest))
+    → deltas_at (length ds) size (record { number = number; named = above; held = held }) (flat_map delta ds ++ rest) ≡ Ok (ds, (held + delta_bytes ds, rest))
 unfolding deltas_at
 deltas_read size number above held [] rest most between room =
     let none : held ≡ held + delta_bytes [] = omega arith in ap (λ (n : ℕ). Ok ([], (n, rest))) none
@@ -61,7 +61,7 @@ deltas_read size number above held (d ∷ ds) rest most between room =
     let behind : List ℕ = flat_map delta ds ++ rest in
     let parts : flat_map delta (d ∷ ds) ++ rest ≡ little_bytes 4 d.named ++ (unit d.unit ++ behind) = simp append_assoc in
     let sums : held + length d.unit + delta_bytes ds ≡ held + delta_bytes (d ∷ ds) = omega (arith, sum_by-cons (λ (e : Delta). length e.unit) d ds) in
-    ap (deltas_at (suc (length ds)) size number above held) parts
+    ap (deltas_at (suc (length ds)) size (record { number = number; named = above; held = held })) parts
     ∙ then_ok (number_at size 4 (little_bytes 4 d.named ++ (unit d.unit ++ behind))) (d.named, unit d.unit ++ behind) _ _
     (number_read size 4 d.named (unit d.unit ++ behind) (omega arith))
     (then_ok
@@ -72,7 +72,8 @@ deltas_read size number above held (d ∷ ds) rest most between room =
     (or_from (nat_le d.named above) (nat_le number d.named) (lt-leb d.named above rises) (lt-leb number d.named below)))
     (then_ok (unit_at size number held (unit d.unit ++ behind)) (d.unit, behind) _ _
     (unit_read size number held d.unit behind between.2 (omega (arith, sums)))
-    (then_ok (deltas_at (length ds) size number d.named (held + length d.unit) behind) (ds, (held + length d.unit + delta_bytes ds, rest)) _ _
+    (then_ok (deltas_at (length ds) size (record { number = number; named = d.named; held = held + length d.unit }) behind)
+    (ds, (held + length d.unit + delta_bytes ds, rest)) _ _
     (deltas_read size number d.named (held + length d.unit) ds rest most between.3 (omega (arith, sums)))
     (ap (λ (n : ℕ). Ok (d ∷ ds, (n, rest))) sums))))
 

@@ -66,7 +66,7 @@ tick_read size audio before t rest is room =
     (unless_ok (nat_lt most_count count) (Malformed 4 (size - length (count ∷ behind_counts))) (Ok behind_counts) (le-ltb most_count count counted))
     (then_ok (unit_at size before.number (before.held + sounds * audio) behind_counts) (t.idr, behind_idr) _ _
     (unit_read size before.number (before.held + sounds * audio) t.idr behind_idr is.idr_most (omega (arith, sums, room)))
-    (then_ok (deltas_at count size before.number 0 (before.held + sounds * audio + length t.idr) behind_idr)
+    (then_ok (deltas_at count size (record { number = before.number; named = 0; held = before.held + sounds * audio + length t.idr }) behind_idr)
     (t.deltas, (before.held + sounds * audio + length t.idr + delta_bytes t.deltas, behind_deltas)) _ _
     (deltas_read size before.number 0 (before.held + sounds * audio + length t.idr) t.deltas behind_deltas is.number_most is.deltas_between
     (omega (arith, sums, room)))

@@ -2,6 +2,7 @@
 use Rattle.std.specs.Prelude.{ℕ, zero, suc, ◌+◌, ◌-◌, ◌*◌, ◌/◌, ◌%◌, ◌^◌, List, [], ◌∷◌, ◌++◌, map, nat_lt, ◌==◌}
 use Rattle.std.specs.Prelude.{if◌then◌else◌}
 use Rattle.std.specs.List.{range_with_len}
+use Rattle.gs_tape.specs.Limits.{generated_audio}
 use Rattle.gs_tape.specs.Tick.{Tick, Delta}
 
 -- A draw takes a state modulo 2 ^ 64 to the next one, and gives what stands above its low 33 bits.
@@ -44,8 +45,10 @@ deltas t state =
 
 -- one more audio unit
 unfoldable pub with_sound : Drawn (List (List ℕ)) → Drawn (List (List ℕ))
-with_sound so_far =
-    record { value = so_far.value ++ (unit_of 240 so_far.state).value ∷ []; state = (unit_of 240 so_far.state).state }
+with_sound so_far = record {
+  value = so_far.value ++ (unit_of generated_audio so_far.state).value ∷ [];
+  state = (unit_of generated_audio so_far.state).state;
+}
 
 -- three audio units, four where t is a multiple of 3
 abbrev pub three_sounds : ℕ → Drawn (List (List ℕ))

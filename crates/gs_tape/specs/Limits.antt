@@ -1,8 +1,9 @@
 -- The limits of a capture file and of its ticks.
 use Rattle.std.specs.Prelude.{ℕ, ◌≡◌, ◌⊎◌, ◌+◌, ◌^◌, ◌<◌, ◌≤◌, List, [], ◌∷◌, length}
 use Rattle.std.specs.List.{All, sum_by}
-pub use Rattle.gs_bytes.specs.Limits.{most_unit, most_audio}
+pub use Rattle.gs_bytes.specs.Limits.{most_unit, most_audio, most_generated}
 use Rattle.gs_tape.specs.declared.limits.TheConstants.{MOST_TICKS, MOST_BYTES, MOST_COUNT}
+use Rattle.gs_tape.specs.declared.limits.TheConstants.{GENERATED_AUDIO, GENERATED_DURATION}
 use Rattle.gs_tape.specs.Tick.{Tick, Delta, unit_bytes}
 
 -- ticks of a file
@@ -16,6 +17,13 @@ most_bytes = MOST_BYTES
 -- deltas of one tick, and audio units of one tick
 abbrev pub most_count : ℕ
 most_count = MOST_COUNT
+
+-- what is generated has audio units of 240 bytes and 5 ms
+abbrev pub generated_audio : ℕ
+generated_audio = GENERATED_AUDIO
+
+abbrev pub generated_duration : ℕ
+generated_duration = GENERATED_DURATION
 
 -- deltas whose named ticks rise, from above one number to below another, with units in their limit
 abbrev pub AreDeltasBetween : ℕ → ℕ → List Delta → Type 0

@@ -62,15 +62,24 @@ unit_at size number held rest = do
   room ← unless (nat_lt most_bytes (held + long)) (Full number) (Ok fits)
   bytes_at size long room
 
--- Deltas of a tick: named ticks rise, from above `before` to below the tick's own number. Behind the
--- deltas stand the sum of all units with theirs, and what is left.
-unfoldable pub deltas_at : ℕ → ℕ → ℕ → ℕ → ℕ → List ℕ → Result (List Delta × (ℕ × List ℕ)) Fault
-deltas_at zero size number before held rest = Ok ([], (held, rest))
-deltas_at (suc n) size number before held rest = do
+-- what is known before a delta: its tick's number, the tick that the delta before it names (0 before the first), all
+-- units so far
+pub record BeforeDelta : Type 0 where
+  pub number : ℕ
+  pub named : ℕ
+  pub held : ℕ
+
+-- So many deltas of a tick: named ticks rise, and are below the tick's own number. Behind the deltas stand the sum of
+-- all units with theirs, and what is left.
+unfoldable pub deltas_at : ℕ → ℕ → BeforeDelta → List ℕ → Result (List Delta × (ℕ × List ℕ)) Fault
+deltas_at zero size before rest = Ok ([], (before.held, rest))
+deltas_at (suc n) size before rest = do
   (named, behind_named) ← number_at size 4 rest
-  known ← unless (nat_le named before || nat_le number named) (Malformed 5 (size - length rest)) (Ok behind_named)
-  (unit, behind_unit) ← unit_at size number held known
-  (others, behind) ← deltas_at n size number named (held + length unit) behind_unit
+  known ← unless (nat_le named before.named || nat_le before.number named) (Malformed 5 (size - length rest))
+      (Ok behind_named)
+  (unit, behind_unit) ← unit_at size before.number before.held known
+  (others, behind) ← deltas_at n size
+      (record { number = before.number; named = named; held = before.held + length unit }) behind_unit
   Ok (record { named = named; unit = unit } ∷ others, behind)
 
 -- audio units of one length
@@ -99,8 +108,8 @@ tick_at size audio before rest = do
   (count, behind_count) ← number_at size 1 room
   counted ← unless (nat_lt most_count count) (Malformed 4 (size - length room)) (Ok behind_count)
   (idr, behind_idr) ← unit_at size before.number (before.held + sounds * audio) counted
-  (deltas, (held, behind_deltas)) ← deltas_at count size before.number 0
-      (before.held + sounds * audio + length idr) behind_idr
+  (deltas, (held, behind_deltas)) ← deltas_at count size
+      (record { number = before.number; named = 0; held = before.held + sounds * audio + length idr }) behind_idr
   (units, behind) ← audio_at sounds size audio behind_deltas
   Ok (record { number = before.number; time = time; idr = idr; deltas = deltas; audio = units }, (held, behind))
 

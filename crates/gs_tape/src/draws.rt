@@ -4,6 +4,7 @@ ghost use Rattle.std.specs.Prelude.{◌≡◌, ◌+◌, ◌*◌, ◌%◌, ◌^�
 ghost use Rattle.gs_tape.specs.Generated as generated;
 
 use crate::delta::{Delta, Deltas};
+use crate::limits::GENERATED_AUDIO;
 use crate::unit::Unit;
 use crate::units::Units;
 use bytes::Bytes;
@@ -92,7 +93,7 @@ impl Draws {
     fn add_sound(&mut self, alloc: Global, units: &mut Vec<Unit>) -> Result<(), OutOfMemory>
         ensures { let drawn = generated.with_sound (record { value = units.old.items; state = self.old.state }) in OnOk result ((units.new.items ≡ drawn.value) × (self.new.state ≡ drawn.state)) }
     {
-        let unit = self.unit_of(alloc, 240)?;
+        let unit = self.unit_of(alloc, GENERATED_AUDIO as u64)?;
         units.push(unit)?;
         Ok(())
     }

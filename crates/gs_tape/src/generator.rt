@@ -3,6 +3,7 @@
 ghost use Rattle.std.specs.Prelude.{◌≡◌, ◌≤◌, ◌∷◌, [], IfNone, IfOk, IfSome, OnErr, OnOk};
 ghost use Rattle.gs_tape.specs.Generated as spec;
 ghost use Rattle.gs_tape.specs.GeneratedLaws.{GeneratedTicksAreWritable};
+ghost use Rattle.gs_tape.specs.Limits.{most_generated};
 
 use crate::draws::Draws;
 use crate::tick::Tick;
@@ -10,8 +11,8 @@ use gs_bytes::OutOfMemory;
 use std::alloc::Global;
 use std::marker::Model;
 
-/// Gives the ticks of the capture that a number generates, with audio units of 240 bytes and 5 ms.
-/// Contracts see its state, the number of its next tick and that of its last.
+/// Gives the ticks of the capture that a number generates, with audio units of `GENERATED_AUDIO` bytes and
+/// `GENERATED_DURATION` ms. Contracts see its state, the number of its next tick and that of its last.
 #[derive(Debug, Drop)]
 pub struct Generator {
     draws: Draws,
@@ -22,12 +23,13 @@ pub struct Generator {
 impl Model for Generator {
     ghost use Rattle.std.specs.Prelude.{◌<◌, ◌≤◌, ◌+◌};
     ghost use Rattle.gs_tape.specs.Generated.{Generating};
+    ghost use Rattle.gs_tape.specs.Limits.{most_generated};
 
     ghost Value = { Generating };
 
     ghost view = { λ g. record { state = g.draws.state; next = g.next; last = g.last } };
 
-    ghost invariant = { λ g. (1 ≤ g.next) × (g.next ≤ g.last + 1) × (g.last ≤ 2000) };
+    ghost invariant = { λ g. (1 ≤ g.next) × (g.next ≤ g.last + 1) × (g.last ≤ most_generated) };
 }
 
 impl Generator {
@@ -35,7 +37,7 @@ impl Generator {
 
     /// The generator of a number, which gives so many ticks.
     pub fn new(number: u32, ticks: u32) -> Generator
-        requires { ticks ≤ 2000 }
+        requires { ticks ≤ most_generated }
         ensures { to_come result ≡ generated number ticks }
     {
         Generator {
@@ -73,7 +75,7 @@ pub fn generated_ticks_are_writable()
 
 // Tick t, of what is drawn.
 fn tick_of(alloc: Global, draws: &mut Draws, t: u32) -> Result<Tick, OutOfMemory>
-    requires { (1 ≤ t) × (t ≤ 2000) }
+    requires { (1 ≤ t) × (t ≤ most_generated) }
     ensures tick { IfOk result (λ tick. tick ≡ (spec.tick t draws.old.state).value) }
     ensures state { OnOk result (draws.new.state ≡ (spec.tick t draws.old.state).state) }
 {

@@ -8,3 +8,9 @@ pub const MOST_BYTES: u64 = 1_073_741_824;
 
 /// Deltas of one tick, and audio units of one tick.
 pub const MOST_COUNT: u8 = 16;
+
+/// The length of an audio unit of a generated capture, in bytes.
+pub const GENERATED_AUDIO: u16 = 240;
+
+/// The duration of an audio unit of a generated capture, in milliseconds.
+pub const GENERATED_DURATION: u8 = 5;
