@@ -41,6 +41,7 @@ fn reach_line<S: Source>(held: &mut Held, source: &mut S) -> Result<Option<usize
     ensures held { holds_line held.old ≡ true → source.new ≡ source.old }
     ensures some { holds_line held.old ≡ true → IfOk result (λ found. IfNone found ⊥) }
     ensures unheld { OnErr result (holds_line held.old ≡ true → ⊥) }
+    ensures still_unheld { OnErr result (holds_line held.new ≡ true → ⊥) }
     ensures written { Keeps (S.written source.old) (S.written source.new) }
     ensures never_falls { S.faults source.old ≤ S.faults source.new }
     ensures fault { IsErrOf result Failed.Fault → Rose (S.faults source.old) (S.faults source.new) }
@@ -123,10 +124,11 @@ impl Lines {
         ensures err { OnErr result (Keeps (to_come self.old (S.left source.old)) (to_come self.new (S.left source.new))) }
         ensures err_given { OnErr result (self.new.given ≡ self.old.given) }
 
-        // Where it is held nothing is read, and it isn't the end.
+        // Where it is held nothing is read, and it isn't the end; where a read fails it isn't held before and behind the call.
         ensures held { holds_line self.old.held ≡ true → source.new ≡ source.old }
         ensures some { holds_line self.old.held ≡ true → IfOk result (λ found. IfNone found ⊥) }
         ensures unheld { IsErrOf result LinesError.ReadFault → holds_line self.old.held ≡ true → ⊥ }
+        ensures still_unheld { IsErrOf result LinesError.ReadFault → holds_line self.new.held ≡ true → ⊥ }
 
         ensures fault { IsErrOf result LinesError.ReadFault → Rose (S.faults source.old) (S.faults source.new) }
         ensures counted { S.faults source.new ≢ S.faults source.old → result ≡ Err LinesError.ReadFault }

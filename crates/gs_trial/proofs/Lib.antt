@@ -25,3 +25,4 @@ pub mod GeneratedSteps
 pub mod Copies
 pub mod Made
 pub mod Heads
+pub mod Stopped

@@ -16,7 +16,7 @@ use Rattle.gs_run.specs.CaptureFile.{CaptureFile}
 use Rattle.gs_run.specs.Session.{Session, State}
 use Rattle.gs_run.specs.Report.{Acted, quietly}
 use Rattle.gs_run.specs.Deed.{Open}
-use Rattle.gs_run.specs.Opening.{are_settings, most_sessions, opened, opened_part, settings_of}
+use Rattle.gs_run.specs.Opening.{client_of, are_settings, most_sessions, opened, opened_part, settings_of}
 use Rattle.gs_run.specs.Refusal.{BadLine, refusal, refused_unless}
 use Rattle.gs_run.specs.Done.{after}
 use Rattle.gs_trial.specs.declared.error.StepError.TheVariants as step_error
@@ -130,10 +130,10 @@ pub record AreOf (s : Settings) (packet percentage minimum duration audio number
   pub audio_is : s.audio ≡ audio
   pub ssrc_is : s.ssrc ≡ number
 
-numbers_are : (s : Settings) (file : CaptureFile) (number packet percentage minimum window : ℕ)
+numbers_are : (s : Settings) (file : CaptureFile) (number packet percentage minimum : ℕ)
     → AreOf s packet percentage minimum file.duration file.audio number
-    → (settings_of file number packet percentage minimum window).stream ≡ numbers_of s
-numbers_are s file number packet percentage minimum window are =
+    → settings_of file number packet percentage minimum ≡ numbers_of s
+numbers_are s file number packet percentage minimum are =
     let a = are.packet_is in
     let b = are.percentage_is in
     let c = are.minimum_is in
@@ -154,7 +154,7 @@ unfolding refusal after opened
 opens old new packet percentage minimum window w s l room test is are feed moment same items made = λ file left state stands.
     let long = sessions_long file.ticks 1 old.sessions.items state.sessions stands.sessions in
     let number = length old.sessions.items + 1 in
-    let settings = settings_of file number packet percentage minimum window in
+    let settings = client_of (settings_of file number packet percentage minimum) window in
     let may : (nat_lt (length state.sessions) most_sessions && are_settings packet percentage minimum window) ≡ true =
     ap (λ (b : Bool). b && are_settings packet percentage minimum window) (lt-ltb (length state.sessions) most_sessions (omega (arith, long, room))) ∙ test in
     let known : AreOf s packet percentage minimum file.duration file.audio number = record {
@@ -167,13 +167,13 @@ opens old new packet percentage minimum window w s l room test is are feed momen
       ssrc_is = are.ssrc_is;
     } in
     let now = opened_part number old.moment settings in
-    let part = made file.ticks settings (numbers_are s file number packet percentage minimum window known) refl (sym is) in
+    let part = made file.ticks settings (numbers_are s file number packet percentage minimum known) refl (sym is) in
     let session : Session = record { part = now; earlier = [] } in
     let next : State = record state { sessions = state.sessions ++ session ∷ [] } in
     let acted : Acted State = quietly next in
     let S : ℕ → ℕ → Acted State = λ n m. quietly (record state {
       sessions = state.sessions
-          ++ record { part = opened_part n m (settings_of file n packet percentage minimum window); earlier = [] } ∷ [];
+          ++ record { part = opened_part n m (client_of (settings_of file n packet percentage minimum) window); earlier = [] } ∷ [];
     }) in
     let whole : S (length state.sessions + 1) state.moment ≡ acted =
     ap (λ (n : ℕ). S (n + 1) state.moment) long ∙ ap (λ (m : ℕ). S number m) (sym stands.moment) in

@@ -114,7 +114,7 @@ led_written before file bytes state a b c lines source trial new left same wrote
     }
 
 -- the next line was given
-losing : (before after : Option (List ℕ)) (rest line : List ℕ) → before ≡ Some rest → LosesLine before after line
+pub losing : (before after : Option (List ℕ)) (rest line : List ℕ) → before ≡ Some rest → LosesLine before after line
     → (now : List ℕ) × (after ≡ Some now) × (lines_of rest ≡ line ∷ lines_of now)
 losing before after rest line is loses = by after (subst (λ (o : Option (List ℕ)). LosesLine o after line) is loses)
   where

@@ -2,3 +2,4 @@ pub mod Standing
 pub mod Stepping
 pub mod Running
 pub mod Trial
+pub mod Stopping

@@ -1,9 +1,11 @@
 -- Cited by private contracts alone: the run of lines, or of steps, on the way, with what was run so far and what is
 -- left to run. Their text is gathered before it is written: of what was reported a part waits.
-use Rattle.std.specs.Prelude.{ℕ, ◌≡◌, ◌++◌, List, Option, Some, None, MatchBool, take}
+use Rattle.std.specs.Prelude.{ℕ, ◌≡◌, ◌++◌, false, List, Option, Some, None, IfSome, MatchBool, take, ⊤}
 use Rattle.std.specs.Io.KnownBytes.{Appends}
 use Rattle.gs_schedule.specs.declared.step.Step.{Step}
+use Rattle.gs_schedule.specs.Lines.{holds_line, lines_of}
 use Rattle.gs_schedule.specs.declared.status.TrialStatus.{TrialStatus}
+use Rattle.gs_schedule.specs.declared.status.TrialStatus.TheVariants as status
 use Rattle.gs_report.specs.Reporting.{Reporting, with_reports}
 use Rattle.gs_run.specs.CaptureFile.{CaptureFile}
 use Rattle.gs_run.specs.Session.{State}
@@ -11,10 +13,12 @@ use Rattle.gs_run.specs.Report.{Report}
 use Rattle.gs_run.specs.Deed.{Deed}
 use Rattle.gs_run.specs.Refusal.{Refusal}
 use Rattle.gs_run.specs.Done.{ran}
-use Rattle.gs_run.specs.Line.{AreDeeds}
-use Rattle.gs_run.specs.Run.{Run, RunsFrom, behind, refusal_status}
+use Rattle.gs_run.specs.Line.{AreDeeds, HasStep}
+use Rattle.gs_run.specs.Run.{Run, RunsFrom, refusal_status}
 use Rattle.gs_trial.specs.declared.trial.Trial.{Trial}
 use Rattle.gs_trial.specs.Standing.{StandsFor}
+use Rattle.gs_trial.specs.Stopping.{IsAtCapture}
+pub use Rattle.gs_trial.specs.Stopping.{Leads}
 use Rattle.gs_trial.specs.Trial.{WritesFront, is_of_run, is_of_source}
 
 -- ---- text that waits
@@ -52,13 +56,6 @@ pub record IsSameButText (old new : Trial) : Type 0 where
 
 -- ---- lines, or steps
 
--- Steps were run from one state to another, with these reports: whatever run those that are left have, with the reports
--- before it, is one of all.
-pub record Leads {A : Type 0} (Has : ℕ → A → Option Step → Type 0) (file : CaptureFile) (number : ℕ) (steps : List A)
-    (state : State) (reports : List Report) (number' : ℕ) (steps' : List A) (state' : State) : Type 0 where
-  pub leads : (run : Run) → RunsFrom Has file number' steps' state' run
-      → RunsFrom Has file number steps state (behind reports run)
-
 -- Steps were run, up to those that are left; the trial stands for what they left, and of what waited before and their
 -- text it was written all but what waits now.
 pub record LedTo {A : Type 0} (Has : ℕ → A → Option Step → Type 0) (before : Reporting) (file : CaptureFile)
@@ -78,6 +75,28 @@ pub record EndsRun {A : Type 0} (Has : ℕ → A → Option Step → Type 0) (be
   pub run : Run
   pub runs : RunsFrom Has file number steps state run
   pub writes : WritesBehind before run old new answer
+
+-- ---- where a read failed
+
+-- the lines were run up to those that are left, and what waited before was written with exactly the text of what they
+-- reported
+pub record HasLed (before : Reporting) (file : CaptureFile) (lines : List (List ℕ)) (state : State) (number : ℕ)
+    (rest : List (List ℕ)) (old new : Option (List ℕ)) : Type 0 where
+  pub reached : State
+  pub reports : List Report
+  pub run : Leads HasStep file 1 lines state reports number rest reached
+  pub writes : Appends old new (with_reports before reports).text
+
+-- up to a line that captures, where a read of the capture file failed, and all lines of what was read of the schedule,
+-- where one of it did
+abbrev pub StopsLines : Reporting → CaptureFile → List (List ℕ) → State → (unread old new : Option (List ℕ))
+    → TrialStatus → Type 0
+StopsLines before file lines state unread old new status.TapeFault =
+    (number : ℕ) × (rest : List (List ℕ)) × IsAtCapture number rest × HasLed before file lines state number rest old new
+StopsLines before file lines state unread old new status.ScheduleFault = IfSome unread (λ unread.
+    (number : ℕ) × (held : List ℕ) × (holds_line held ≡ false)
+    × HasLed before file lines state number (lines_of (held ++ unread)) old new)
+StopsLines before file lines state unread old new _ = ⊤
 
 -- ---- one step
 

@@ -3,11 +3,24 @@
 ghost use Rattle.std.specs.Prelude.{◌≡◌, ◌≤◌, ◌++◌, ◌∷◌, [], IfOk, OnOk};
 ghost use Rattle.gs_schedule.specs.declared.step.Step.TheVariants.{Close, Pump, Session};
 ghost use Rattle.gs_run.specs.Generated as spec;
+ghost use Rattle.gs_tape.specs.Limits.{most_generated};
 
 use gs_bytes::OutOfMemory;
 use gs_input::Event;
 use gs_schedule::Step;
 use std::alloc::Global;
+
+/// The packet size of each session, in bytes.
+const PACKET: u32 = 1_392;
+
+/// The percentage of parity of each session.
+const PERCENTAGE: u32 = 20;
+
+/// The parity shards that each block has at least.
+const MINIMUM: u32 = 2;
+
+/// The frames of each client's window.
+const WINDOW: u32 = 1;
 
 /// The key that the user presses and lets go.
 const KEY: i16 = 65;
@@ -17,7 +30,7 @@ const LOST: u32 = 50;
 
 /// The steps of the schedule over so many generated ticks.
 pub(crate) fn generated_steps(alloc: Global, ticks: u32) -> Result<Vec<Step>, OutOfMemory>
-    requires few { ticks ≤ 2000 }
+    requires few { ticks ≤ most_generated }
     ensures steps { IfOk result (λ steps. steps.items ≡ spec.generated_steps ticks) }
 {
     let mut steps = Vec::new(alloc);
@@ -41,10 +54,10 @@ fn open_step() -> Step
     ensures { result ≡ Session 1392 20 2 1 }
 {
     Step::Session {
-        packet: 1392,
-        percentage: 20,
-        minimum: 2,
-        window: 1,
+        packet: PACKET,
+        percentage: PERCENTAGE,
+        minimum: MINIMUM,
+        window: WINDOW,
     }
 }
 

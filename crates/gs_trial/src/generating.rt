@@ -2,6 +2,7 @@
 
 ghost use Rattle.std.specs.Prelude.{◌≡◌, ◌≢◌, ◌<◌, ◌≤◌, ◌⊎◌, IfErr, IfOk, OnErr, OnOk, length};
 ghost use Rattle.std.specs.Io.KnownBytes.{Appends};
+ghost use Rattle.gs_tape.specs.Limits.{most_generated};
 ghost use Rattle.gs_trial.specs.Trial.{AnswersMake, AnswersTape, CountsFor, IsCause, WritesFront, answer_of};
 
 use crate::error::write_status;
@@ -11,13 +12,11 @@ use gs_bytes::{OutOfMemory, Sink, Source, write_all};
 use gs_command::Generated;
 use gs_feed::Feed;
 use gs_generated::GeneratedFile;
+use gs_reader::PIECE;
 use gs_report::Detail;
 use gs_run::whole_runs_hold;
 use gs_schedule::TrialStatus;
 use std::alloc::Global;
-
-/// How many bytes of a generated file are copied at once.
-const PIECE: usize = 65_536;
 
 /// Writes the generated capture file, piece by piece.
 pub(crate) fn write_tape<K: Sink>(
@@ -25,7 +24,7 @@ pub(crate) fn write_tape<K: Sink>(
     generated: Generated,
     out: &mut K,
 ) -> Result<(), TrialStatus>
-    requires few { generated.ticks ≤ 2000 }
+    requires few { generated.ticks ≤ most_generated }
     ensures answers { AnswersTape generated.number generated.ticks (K.written out.old) (K.written out.new) (answer_of result) }
     ensures cause { IfErr result (λ e. (e ≡ TrialStatus.WriteFault) ⊎ (e ≡ TrialStatus.OutOfMemory)) }
     ensures write_faults { CountsFor TrialStatus.WriteFault result (K.faults out.old) (K.faults out.new) }
@@ -74,7 +73,7 @@ pub(crate) fn make<K: Sink>(
     generated: Generated,
     out: &mut K,
 ) -> Result<(), TrialStatus>
-    requires few { generated.ticks ≤ 2000 }
+    requires few { generated.ticks ≤ most_generated }
     ensures answers { AnswersMake generated.number generated.ticks (K.written out.old) (K.written out.new) (answer_of result) }
     ensures cause { IfErr result IsCause }
     ensures not_tape { IfErr result (λ e. e ≢ TrialStatus.TapeFault) }

@@ -1,15 +1,16 @@
 // The lines of a schedule.
 
 ghost use Rattle.std.specs.Prelude.{◌≡◌, ◌≢◌, ◌≤◌, ◌<◌, ◌+◌, ◌-◌, ◌^◌, ◌∷◌, [], ℕ, List, Err, Some, IfErr, OnOk, length};
-ghost use Rattle.std.specs.Io.KnownBytes.{IsAtEnd};
+ghost use Rattle.std.specs.Io.KnownBytes.{Appends, IsAtEnd};
 ghost use Rattle.gs_bytes.specs.Outside.{KeepsFlag, SetsFlag};
 ghost use Rattle.gs_schedule.specs.Lines.{lines_of, most_line};
+ghost use Rattle.gs_schedule.specs.declared.step.Step.TheVariants.{Cap};
 ghost use Rattle.gs_run.specs.CaptureFile.{CaptureFile};
 ghost use Rattle.gs_run.specs.Session.{State};
 ghost use Rattle.gs_run.specs.Line.{HasStep};
 ghost use Rattle.gs_run.specs.Run.{stopped};
 ghost use Rattle.gs_trial.specs.Standing.{IsReady, StandsFor};
-ghost use Rattle.gs_trial.specs.Running.{EndsRun, LedTo, WritesBehind};
+ghost use Rattle.gs_trial.specs.Running.{EndsRun, LedTo, StopsLines, WritesBehind};
 ghost use Rattle.gs_trial.specs.Trial.{CountsFor, IsCause};
 
 use crate::trial::Trial;
@@ -32,6 +33,9 @@ impl Trial {
             (K.written out.old) (K.written out.new) n [] self.new (S.left tape.new)) }
         ensures ends { IfErr result (λ answer. (file : CaptureFile) (state : State) (bytes : List ℕ) → StandsFor self.old file (S.left tape.old) state
             → T.left schedule.old ≡ Some bytes → EndsRun HasStep self.old.reporter file 1 (lines_of bytes) state
+            (K.written out.old) (K.written out.new) answer) }
+        ensures stops { IfErr result (λ answer. (file : CaptureFile) (state : State) (bytes : List ℕ) → StandsFor self.old file (S.left tape.old) state
+            → T.left schedule.old ≡ Some bytes → StopsLines self.old.reporter file (lines_of bytes) state (T.left schedule.new)
             (K.written out.old) (K.written out.new) answer) }
         ensures cause { IfErr result IsCause }
         ensures at_end { OnOk result (IsAtEnd (T.left schedule.new)) }
@@ -85,6 +89,8 @@ impl Trial {
         ensures ends { IfErr result (λ answer. (file : CaptureFile) (state : State) (rest : List (List ℕ)) → StandsFor self.old file (S.left tape.old) state
             → EndsRun HasStep self.old.reporter file line.now.number (line.now.bytes ∷ rest) state
             (K.written out.old) (K.written out.new) answer) }
+        ensures at_capture { IfErr result (λ e. e ≡ TrialStatus.TapeFault → HasStep line.now.number line.now.bytes (Some Cap)
+            × Appends (K.written out.old) (K.written out.new) self.old.reporter.text) }
         ensures cause { IfErr result IsCause }
         ensures not_met { OnOk result (KeepsFlag (S.met_end tape.old) (S.met_end tape.new)) }
         ensures not_schedule { IfErr result (λ e. e ≢ TrialStatus.ScheduleFault) }

@@ -14,10 +14,8 @@ ghost use Rattle.gs_trial.specs.Trial.{CountsFor, IsCause};
 use crate::error::{step_status, write_status};
 use crate::trial::Trial;
 use gs_bytes::{Sink, Source, write_all};
+use gs_reader::PIECE;
 use gs_schedule::{Lines, Step, TrialStatus};
-
-/// The text of steps is gathered until so many bytes wait.
-const PIECE: usize = 65_536;
 
 impl Trial {
     /// Runs the step of this number. What it reports waits, until a piece is gathered or a source is read. Where a deed of
@@ -37,6 +35,8 @@ impl Trial {
             → RanStep self.old.reporter file step.now state (K.written out.old) (K.written out.new) self.new (S.left tape.new)) }
         ensures ends { IfErr result (λ answer. (file : CaptureFile) (state : State) → StandsFor self.old file (S.left tape.old) state
             → EndsStep self.old.reporter file number step.now state (K.written out.old) (K.written out.new) answer) }
+        ensures at_capture { IfErr result (λ e. e ≡ TrialStatus.TapeFault
+            → (step.now ≡ Step.Cap) × Appends (K.written out.old) (K.written out.new) self.old.reporter.text) }
         ensures cause { IfErr result IsCause }
         ensures not_met { OnOk result (KeepsFlag (S.met_end tape.old) (S.met_end tape.new)) }
         ensures not_schedule { IfErr result (λ e. e ≢ TrialStatus.ScheduleFault) }

@@ -1,7 +1,7 @@
 // A schedule over a capture file.
 
 ghost use Rattle.std.specs.Prelude.{◌≡◌, ◌≢◌, ◌++◌, ◌∷◌, [], IfErr, List, OnOk};
-ghost use Rattle.std.specs.Io.KnownBytes.{IsAtEnd};
+ghost use Rattle.std.specs.Io.KnownBytes.{Appends, IsAtEnd};
 ghost use Rattle.gs_bytes.specs.Outside.{SetsFlag};
 ghost use Rattle.gs_tape.specs.Tick.{Tick};
 ghost use Rattle.gs_schedule.specs.declared.output.Output.TheVariants as output;
@@ -13,6 +13,7 @@ ghost use Rattle.gs_run.specs.Totals.{totals_from};
 ghost use Rattle.gs_report.specs.Reporting.{with_reports};
 ghost use Rattle.gs_trial.specs.Standing.{AreSessions, IsReady, StandsFor};
 ghost use Rattle.gs_trial.specs.Running.{WritesBehind};
+ghost use Rattle.gs_trial.specs.Stopping.{StopsIfTold};
 ghost use Rattle.gs_trial.specs.Trial.{AnswersIfTold, CountsFor, HasHead, IsCause, answer_of};
 
 use crate::error::tape_status;
@@ -34,6 +35,9 @@ pub(crate) fn run_script<S: Source, T: Source, K: Sink>(
     out: &mut K,
 ) -> Result<(), TrialStatus>
     ensures answers { AnswersIfTold detail (S.left tape.old) (T.left schedule.old) (K.written out.old) (K.written out.new) (answer_of result) }
+    ensures stops { StopsIfTold detail (S.left tape.old) (T.left schedule.old) (T.left schedule.new)
+        (K.written out.old) (K.written out.new) (answer_of result) }
+    ensures headless { (HasHead (S.left tape.old) → ⊥) → (schedule.new ≡ schedule.old) × (out.new ≡ out.old) }
     ensures cause { IfErr result IsCause }
     ensures head_first { IfErr result (λ e. e ≡ TrialStatus.ScheduleFault → HasHead (S.left tape.old)) }
     ensures at_end { OnOk result (IsAtEnd (S.left tape.new) × IsAtEnd (T.left schedule.new)) }
@@ -62,6 +66,7 @@ impl Trial {
         requires ready { IsReady self.old }
         ensures finishes { (file : CaptureFile) (state : State) → StandsFor self.old file (S.left tape.old) state
             → WritesBehind self.old.reporter (finished file.fault state) (K.written out.old) (K.written out.new) (answer_of result) }
+        ensures at_rest { IfErr result (λ e. e ≡ TrialStatus.TapeFault → Appends (K.written out.old) (K.written out.new) self.old.reporter.text) }
         ensures cause { IfErr result IsCause }
         ensures not_schedule { IfErr result (λ e. e ≢ TrialStatus.ScheduleFault) }
         ensures at_end { OnOk result (IsAtEnd (S.left tape.new)) }

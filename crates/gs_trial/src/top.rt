@@ -5,6 +5,7 @@ ghost use Rattle.std.specs.Io.KnownBytes.{IsAtEnd};
 ghost use Rattle.gs_bytes.specs.Outside.{Rose, SetsFlag};
 ghost use Rattle.gs_command.specs.Words.{command_of, first_misfit};
 ghost use Rattle.gs_command.specs.declared.command.Detail as spec;
+ghost use Rattle.gs_trial.specs.Stopping.{StopsIfTold};
 ghost use Rattle.gs_trial.specs.Trial.{Answers, CompletesGenerated, CompletesIfTold, HasHead, IsGenerating, answer_of};
 
 use crate::generating::{make, write_tape};
@@ -43,6 +44,13 @@ pub fn trial_main<S: Source, T: Source, K: Sink>(
         → IsGenerating command → (tape.new ≡ tape.old) × (schedule.new ≡ schedule.old) }
     ensures usage_changes_nothing { IsSome (first_misfit (map string_bytes words.now))
         → (tape.new ≡ tape.old) × (schedule.new ≡ schedule.old) × (out.new ≡ out.old) }
+
+    // Where a read failed: which lines were run before, of which exactly the text was written. Where the head has a fault no
+    // line is read.
+    ensures stops { (detail : spec.Detail) → command_of (map string_bytes words.now) ≡ Some (TrialCommand.Script detail)
+        → StopsIfTold detail (S.left tape.old) (T.left schedule.old) (T.left schedule.new) (K.written out.old) (K.written out.new) result }
+    ensures headless { (HasHead (S.left tape.old) → ⊥) → (detail : spec.Detail)
+        → command_of (map string_bytes words.now) ≡ Some (TrialCommand.Script detail) → (schedule.new ≡ schedule.old) × (out.new ≡ out.old) }
 
     // A run that ends well is answered so where no object failed and memory sufficed.
     ensures complete { (detail : spec.Detail) → command_of (map string_bytes words.now) ≡ Some (TrialCommand.Script detail)

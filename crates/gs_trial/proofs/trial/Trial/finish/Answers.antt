@@ -4,7 +4,9 @@ use Rattle.gs_schedule.specs.declared.status.TrialStatus.TheVariants as status
 use Rattle.gs_run.specs.Run.{finished}
 use Rattle.gs_trial.specs.Running.{WritesBehind}
 use Rattle.gs_trial.proofs.Leading.{front_of, same_stands}
-use Rattle.gs_trial.proofs.Results.{on_ok}
+use Rattle.gs_trial.proofs.Results.{err_more, on_ok}
+use Rattle.std.proofs.lemmas.Result.{err_from_is_err_and}
+use Rattle.gs_trial.proofs.Stopped.{never_tape}
 use Rattle.gs_trial.proofs.Scripts.{finish_fails, finish_writes}
 use Rattle.gs_trial.proofs.Texts.{front_all}
 use Rattle.gs_trial.proofs.trial.Trial.finish.Goals as goal
@@ -33,3 +35,17 @@ pub returns-then-is_err-clause-finishes : goal.returns-then-is_err-clause-finish
 returns-then-is_err-clause-finishes g c = λ file state stands.
     let old = c.args.self.now.reporter in
     front_of old (finished file.fault state) _ _ status.OutOfMemory refl (front_all _ _ old.text c.in_ok-write_text.ensures.ok)
+
+pub returns-in_err-write_text-clause-at_rest : goal.returns-in_err-write_text-clause-at_rest
+returns-in_err-write_text-clause-at_rest g c =
+    let p = err_from_is_err_and c.from_residual.result c.from_residual.ensures.1 in
+    rw (p.1, p.2) (λ is. never_tape _ _ c.in_err-write_text.ensures.cause is)
+
+pub returns-in-Err-clause-at_rest : goal.returns-in-Err-clause-at_rest
+returns-in-Err-clause-at_rest g c = λ is. c.in_ok-write_text.ensures.ok
+
+pub returns-then-is_err-clause-at_rest : goal.returns-then-is_err-clause-at_rest
+returns-then-is_err-clause-at_rest g c = λ is. c.in_ok-write_text.ensures.ok
+
+pub returns-clause-at_rest : goal.returns-clause-at_rest
+returns-clause-at_rest g c = err_more c.write_text-2.result _ _ (λ answer cause is. never_tape answer _ cause is) c.write_text-2.ensures.cause

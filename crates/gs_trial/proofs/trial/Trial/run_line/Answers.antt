@@ -1,3 +1,6 @@
+use Rattle.std.proofs.Common.{Some, subst}
+use Rattle.gs_schedule.specs.declared.step.Step.{Step}
+use Rattle.gs_run.specs.Line.{HasStep}
 use Rattle.gs_trial.proofs.Leading.{ends_bad}
 use Rattle.gs_trial.proofs.Proper.{proper}
 use Rattle.gs_trial.proofs.Results.{err_more, on_more}
@@ -32,3 +35,19 @@ returns-clause-ends g c =
     c.read_line.ensures c.requires.short c.requires.numbered)
     (ends file state stands))
     c.run_step.ensures.ends
+
+pub returns-in_default-clause-at_capture : goal.returns-in_default-clause-at_capture
+returns-in_default-clause-at_capture g c = λ is. absurd (c.end_at.ensures.not_of_source.0 is)
+
+pub returns-clause-at_capture : goal.returns-clause-at_capture
+returns-clause-at_capture g c =
+    let number = c.args.line.now.number in
+    let bytes = c.args.line.now.bytes in
+    err_more c.run_step.result _ _
+    (λ answer at. λ is. (
+      subst (λ (s : Step). HasStep number bytes (Some s)) (at is).0
+          (has_step number bytes c.as_bytes.result.now c.read_line.result c.in-Some.step c.as_bytes.ensures c.in-Some.is
+          c.read_line.ensures c.requires.short c.requires.numbered),
+      (at is).1,
+    ))
+    c.run_step.ensures.at_capture

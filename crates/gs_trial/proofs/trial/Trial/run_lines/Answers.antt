@@ -4,7 +4,8 @@ use Rattle.gs_bytes.proofs.StreamLemmas.{KeepsFlag-trans}
 use Rattle.gs_schedule.specs.Lines.{LinesState}
 use Rattle.gs_schedule.proofs.Flags.{TellsFlag-refl, TellsFlag-trans, told_then_set}
 use Rattle.gs_trial.proofs.Counting.{counts_none, keeps_flag}
-use Rattle.gs_trial.proofs.Results.{not_of_run}
+use Rattle.gs_trial.proofs.Results.{not_of_run, not_of_source}
+use Rattle.gs_trial.proofs.Stopped.{neither, stops_more, stops_not, stops_read}
 use Rattle.std.specs.Io.KnownBytes.{Appends}
 use Rattle.std.proofs.KnownBytes.{Appends-nil}
 use Rattle.gs_trial.proofs.RunLines.{LedOn, ends_long, ends_more, ends_quietly, led_all, led_more, led_start, led_written, none_left, waiting_part}
@@ -115,3 +116,39 @@ pub returns-in-Ok-None-clause-met_end : goal.returns-in-Ok-None-clause-met_end
 returns-in-Ok-None-clause-met_end g c =
     let given = rw c.in-Ok-None.field-0-is at c.in-Ok-None.ensures in
     told_then_set _ _ _ c.lines.invariant.tells given.met_end
+
+pub returns-in_err-write_before_line-clause-stops : goal.returns-in_err-write_before_line-clause-stops
+returns-in_err-write_before_line-clause-stops g c =
+    let p = err_from_is_err_and c.from_residual.result c.from_residual.ensures.1 in
+    rw (p.1, p.2) (λ file state bytes stands is.
+    stops_not c.args.self.now.reporter file _ state _ _ _ c.in_err-write_before_line.field-0.0
+    (not_of_source _ c.in_err-write_before_line.ensures.cause))
+
+pub returns-in_err-run_line-in-Ok-Some-clause-stops : goal.returns-in_err-run_line-in-Ok-Some-clause-stops
+returns-in_err-run_line-in-Ok-Some-clause-stops g c =
+    let p = err_from_is_err_and c.from_residual-in_err-run_line-in-Ok-Some.result c.from_residual-in_err-run_line-in-Ok-Some.ensures.1 in
+    let wrote = c.in_ok-write_before_line.ensures in
+    let given = rw c.in-Ok-Some.field-0-is at c.in-Ok-Some.ensures in
+    let ran = c.in_err-run_line-in-Ok-Some.ensures in
+    rw (p.1, p.2) (λ file state bytes stands is.
+    stops_more c.args.self.now.reporter file bytes state _ _ _ c.lines.lines c.next.new.self _ _ c.write_before_line.new.self _ c.in-Ok-Some.line
+    c.in_err-run_line-in-Ok-Some.field-0.0
+    (led_written c.args.self.now.reporter file bytes state _ _ _ c.lines.lines _ c.lines.self c.write_before_line.new.self _ wrote.kept wrote.up_to
+    (c.lines.invariant.led file state bytes stands is)) given.others given.number ran.at_capture ran.not_schedule)
+
+pub returns-in-Err-TooLong-clause-stops : goal.returns-in-Err-TooLong-clause-stops
+returns-in-Err-TooLong-clause-stops g c = λ file state bytes stands is.
+    stops_not c.args.self.now.reporter file _ state _ _ _ c.end_at.result
+    (neither c.end_at.result c.end_at.ensures.not_of_source.0 c.end_at.ensures.not_of_source.1)
+
+pub returns-in-Err-ReadFault-clause-stops : goal.returns-in-Err-ReadFault-clause-stops
+returns-in-Err-ReadFault-clause-stops g c = λ file state bytes stands is.
+    let wrote = c.in_ok-write_before_line.ensures in
+    let failed = ap (λ e. Err e) c.in-Err-ReadFault.field-0-is in
+    let none : c.write_before_line.new.self.reporter.text ≡ [] = elim wrote.first [
+      | inl held ↦ absurd (c.in-Err-ReadFault.ensures.unheld failed held)
+      | inr none ↦ none
+    ] in
+    stops_read c.args.self.now.reporter file bytes state _ _ c.lines.lines c.next.new.self _ _ c.write_before_line.new.self _
+    (led_written c.args.self.now.reporter file bytes state _ _ _ c.lines.lines _ c.lines.self c.write_before_line.new.self _ wrote.kept wrote.up_to
+    (c.lines.invariant.led file state bytes stands is)) none c.in-Err-ReadFault.ensures.err (c.in-Err-ReadFault.ensures.still_unheld failed)

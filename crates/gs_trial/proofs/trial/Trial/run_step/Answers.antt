@@ -1,15 +1,17 @@
-use Rattle.std.proofs.Common.{◌≡◌, ◌∙◌, true, false, [], Err, refl, sym, ap}
+use Rattle.std.proofs.Common.{◌≡◌, ◌∙◌, ℕ, List, Option, true, false, [], Err, refl, sym, ap, subst}
 use Rattle.std.specs.Prelude.{is_some}
 use Rattle.std.proofs.lemmas.Result.{err_from_is_err_and}
 use Rattle.gs_trial.specs.Stepping.{refusal_of}
 use Rattle.gs_trial.proofs.Keeping.{ready_still}
 use Rattle.gs_trial.proofs.Leading.{same_stands}
-use Rattle.gs_trial.proofs.Results.{err_both, not_of_run, on_any, on_more}
+use Rattle.gs_trial.proofs.Results.{err_both, err_more, not_of_run, on_any, on_more}
 use Rattle.gs_trial.proofs.StepTexts.{ends_after, ends_at, ends_behind_it, ends_part, ends_told, ends_unknown, ran_behind, ran_step}
 use Rattle.gs_tape.specs.declared.error.TapeError.TheVariants as tape_error
 use Rattle.gs_trial.specs.declared.error.StepError.{StepError}
 use Rattle.gs_trial.specs.declared.error.StepError.TheVariants as step_error
 use Rattle.gs_trial.proofs.RunLines.{waiting_part}
+use Rattle.gs_trial.proofs.Stopped.{fault_of_step, never_tape, whole_of}
+use Rattle.std.specs.Io.KnownBytes.{Appends}
 use Rattle.gs_trial.proofs.trial.Trial.run_step.Goals.{then-is_told+in_ok-write_text-in-Err, else-is_told}
 use Rattle.gs_trial.proofs.trial.Trial.run_step.Goals as goal
 
@@ -88,3 +90,34 @@ returns-after-is_told-clause-ends g c = λ file state stands.
 pub returns-in-Ok-clause-ready : goal.returns-in-Ok-clause-ready
 returns-in-Ok-clause-ready g c =
     on_any c.write_piece.result _ (ready_still c.step.new.self c.write_piece.new.self c.write_piece.ensures.kept c.in-Ok.ensures.ready)
+
+pub returns-in_err-write_before_step-clause-at_capture : goal.returns-in_err-write_before_step-clause-at_capture
+returns-in_err-write_before_step-clause-at_capture g c =
+    let p = err_from_is_err_and c.from_residual.result c.from_residual.ensures.1 in
+    rw (p.1, p.2) (λ is. never_tape _ _ c.in_err-write_before_step.ensures.cause is)
+
+pub returns-in_err-write_text-in-Err-clause-at_capture : goal.returns-in_err-write_text-in-Err-clause-at_capture
+returns-in_err-write_text-in-Err-clause-at_capture g c =
+    let p = err_from_is_err_and c.from_residual-in_err-write_text-in-Err.result c.from_residual-in_err-write_text-in-Err.ensures.1 in
+    rw (p.1, p.2) (λ is. never_tape _ _ c.in_err-write_text-in-Err.ensures.cause is)
+
+pub returns-in-Ok-clause-at_capture : goal.returns-in-Ok-clause-at_capture
+returns-in-Ok-clause-at_capture g c = err_more c.write_piece.result _ _ (λ answer cause is. never_tape answer _ cause is) c.write_piece.ensures.cause
+
+pub returns-after-is_told-clause-at_capture : goal.returns-after-is_told-clause-at_capture
+returns-after-is_told-clause-at_capture g c = λ is.
+    let e = c.in-Err.error in
+    let fault : e ≡ step_error.Tape tape_error.TapeFault = fault_of_step e c.args.number (sym c.step_status.ensures ∙ is) in
+    let cap = c.in-Err.ensures.only_cap (ap (λ (x : StepError). Err x) fault) in
+    let first = c.in_ok-write_before_step.ensures in
+    let wrote = whole_of _ _ c.args.self.now.reporter.text c.write_before_step.new.self.reporter.text first.up_to (first.first cap) in
+    let not : is_some (refusal_of e) ≡ false = ap (λ (x : StepError). is_some (refusal_of x)) fault in
+    let At : Option (List ℕ) → Type 0 = λ o. Appends (g.K.Outside.written c.args.out.now) o c.args.self.now.reporter.text in (
+      cap,
+      elim c.if-is_told.branch [
+        | then-is_told+in_ok-write_text-in-Err w ↦
+            let told : is_some (refusal_of e) ≡ true = sym c.is_told.ensures ∙ w.if-is_told.true in
+            absurd (cc (told, not))
+        | else-is_told w ↦ subst At (sym (ap g.K.Outside.written w.out-is)) wrote
+      ],
+    )

@@ -1,0 +1,231 @@
+-- What was run before a read failed.
+use Rattle.std.proofs.Common.{◌≡◌, ◌≢◌, ◌∙◌, ◌++◌, ◌+◌, ◌⊎◌, ℕ, Bool, true, false, List, [], ◌∷◌, Option, Some, None, Result, Ok, Err, refl, sym, ap, subst}
+use Rattle.std.proofs.Common.{append-nil, inl, inr}
+use Rattle.std.specs.Prelude.{IfErr, ⊤}
+use Rattle.std.specs.Io.KnownBytes.{Appends, Keeps}
+use Rattle.std.proofs.KnownBytes.{Appends-nil, Appends-trans}
+use Rattle.gs_tape.specs.declared.error.TapeError.{TapeError}
+use Rattle.gs_tape.specs.declared.error.TapeError.TheVariants as tape_error
+use Rattle.gs_feed.specs.Feeding.{Feeding, Opens}
+use Rattle.gs_command.specs.declared.command.Detail.{Detail}
+use Rattle.gs_schedule.specs.Lines.{LinesState, LosesLine, holds_line, lines_of, to_come}
+use Rattle.gs_schedule.specs.declared.line.Line.{Line}
+use Rattle.gs_schedule.specs.declared.step.Step.TheVariants as step
+use Rattle.gs_schedule.specs.declared.status.TrialStatus.{TrialStatus}
+use Rattle.gs_schedule.specs.declared.status.TrialStatus.TheVariants as status
+use Rattle.gs_report.specs.Reporting.{Reporting, with_reports}
+use Rattle.gs_run.specs.CaptureFile.{CaptureFile, file_of}
+use Rattle.gs_run.specs.Session.{State, start}
+use Rattle.gs_run.specs.Line.{HasStep}
+use Rattle.gs_trial.specs.declared.error.StepError.{StepError}
+use Rattle.gs_trial.specs.declared.error.StepError.TheVariants as step_error
+use Rattle.gs_trial.specs.declared.trial.Trial.{Trial}
+use Rattle.gs_trial.specs.Standing.{IsFeedOf, StandsFor}
+use Rattle.gs_trial.specs.Stepping.{step_status, tape_status}
+use Rattle.gs_trial.specs.Running.{HasLed, LedTo, StopsLines, WritesUpTo}
+use Rattle.gs_trial.specs.Stopping.{HasRun, IsAtCapture, Stops, StopsIfTold}
+use Rattle.gs_trial.specs.Trial.{answer_of, is_of_source}
+use Rattle.gs_trial.proofs.Leading.{leads_none}
+use Rattle.gs_trial.proofs.RunLines.{LedOn, losing}
+use Rattle.gs_trial.proofs.Scripts.{feed_of, new_reporter}
+
+-- ---- which answer it is
+
+-- where a sink failed or memory ran out, no read failed
+pub never_tape : (answer : TrialStatus) (P : Type 0) → (answer ≡ status.WriteFault) ⊎ (answer ≡ status.OutOfMemory) → answer ≡ status.TapeFault → P
+never_tape answer P (inl write) is = absurd (let both : status.WriteFault ≡ status.TapeFault = sym write ∙ is in cc)
+never_tape answer P (inr memory) is = absurd (let both : status.OutOfMemory ≡ status.TapeFault = sym memory ∙ is in cc)
+
+-- the error of a step whose read failed
+pub fault_of_step : (e : StepError) (n : ℕ) → step_status e n ≡ status.TapeFault → e ≡ step_error.Tape tape_error.TapeFault
+fault_of_step step_error.BadLine n is = absurd cc
+fault_of_step step_error.OutOfMemory n is = absurd cc
+fault_of_step (step_error.Tape tape_error.TapeFault) n is = refl
+fault_of_step (step_error.Tape (tape_error.BadTape kind place)) n is = absurd cc
+fault_of_step (step_error.Tape (tape_error.TapeFull tick)) n is = absurd cc
+fault_of_step (step_error.Tape (tape_error.UnitTooLarge tick)) n is = absurd cc
+fault_of_step (step_error.Tape (tape_error.AudioLength length)) n is = absurd cc
+fault_of_step (step_error.Tape tape_error.OutOfMemory) n is = absurd cc
+
+-- ---- what was written
+
+-- nothing waits any more
+pub whole_of : (a b : Option (List ℕ)) (text waits : List ℕ) → WritesUpTo a b text waits → waits ≡ [] → Appends a b text
+whole_of a b text waits (w, p, e) none = subst (Appends a b) (sym (append-nil w) ∙ ap (λ (l : List ℕ). w ++ l) (sym none) ∙ sym e) p
+
+-- what waited was written
+whole_then : (a b c : Option (List ℕ)) (text waits : List ℕ) → WritesUpTo a b text waits → Appends b c waits → Appends a c text
+whole_then a b c text waits (w, p, e) q = subst (Appends a c) (sym e) (Appends-trans a b c w waits p q)
+
+led_here : (before : Reporting) (file : CaptureFile) (lines : List (List ℕ)) (state : State) (a b c : Option (List ℕ)) (n : ℕ) (rest : List (List ℕ))
+    (trial : Trial) (left : Option (List ℕ)) → LedTo HasStep before file 1 lines state a b n rest trial left → Appends b c trial.reporter.text
+    → HasLed before file lines state n rest a c
+led_here before file lines state a b c n rest trial left led wrote = record {
+  reached = led.reached;
+  reports = led.reports;
+  run = led.run;
+  writes = whole_then a b c (with_reports before led.reports).text trial.reporter.text led.writes wrote;
+}
+
+-- ---- where it stops
+
+pub neither : (answer : TrialStatus) → answer ≢ status.TapeFault → answer ≢ status.ScheduleFault → is_of_source answer ≡ false
+neither status.TapeFault tape schedule = absurd (tape refl)
+neither status.ScheduleFault tape schedule = absurd (schedule refl)
+neither status.Ok tape schedule = refl
+neither (status.Usage word) tape schedule = refl
+neither (status.BadTape kind place) tape schedule = refl
+neither (status.TapeFull tick) tape schedule = refl
+neither (status.UnitTooLarge tick) tape schedule = refl
+neither (status.AudioLength length) tape schedule = refl
+neither (status.BadSchedule line) tape schedule = refl
+neither status.WriteFault tape schedule = refl
+neither status.OutOfMemory tape schedule = refl
+
+-- no read failed
+pub stops_not : (before : Reporting) (file : CaptureFile) (lines : List (List ℕ)) (state : State) (unread a b : Option (List ℕ)) (answer : TrialStatus)
+    → is_of_source answer ≡ false → StopsLines before file lines state unread a b answer
+stops_not before file lines state unread a b status.TapeFault not = absurd cc
+stops_not before file lines state unread a b status.ScheduleFault not = absurd cc
+stops_not before file lines state unread a b status.Ok not = tt
+stops_not before file lines state unread a b (status.Usage word) not = tt
+stops_not before file lines state unread a b (status.BadTape kind place) not = tt
+stops_not before file lines state unread a b (status.TapeFull tick) not = tt
+stops_not before file lines state unread a b (status.UnitTooLarge tick) not = tt
+stops_not before file lines state unread a b (status.AudioLength length) not = tt
+stops_not before file lines state unread a b (status.BadSchedule line) not = tt
+stops_not before file lines state unread a b status.WriteFault not = tt
+stops_not before file lines state unread a b status.OutOfMemory not = tt
+
+-- no read of the schedule failed
+stops_capture : (before : Reporting) (file : CaptureFile) (lines : List (List ℕ)) (state : State) (unread a b : Option (List ℕ)) (answer : TrialStatus)
+    → (answer ≡ status.TapeFault → (n : ℕ) × (rest : List (List ℕ)) × IsAtCapture n rest × HasLed before file lines state n rest a b)
+    → answer ≢ status.ScheduleFault → StopsLines before file lines state unread a b answer
+stops_capture before file lines state unread a b status.TapeFault fault not = fault refl
+stops_capture before file lines state unread a b status.ScheduleFault fault not = absurd (not refl)
+stops_capture before file lines state unread a b status.Ok fault not = tt
+stops_capture before file lines state unread a b (status.Usage word) fault not = tt
+stops_capture before file lines state unread a b (status.BadTape kind place) fault not = tt
+stops_capture before file lines state unread a b (status.TapeFull tick) fault not = tt
+stops_capture before file lines state unread a b (status.UnitTooLarge tick) fault not = tt
+stops_capture before file lines state unread a b (status.AudioLength length) fault not = tt
+stops_capture before file lines state unread a b (status.BadSchedule line) fault not = tt
+stops_capture before file lines state unread a b status.WriteFault fault not = tt
+stops_capture before file lines state unread a b status.OutOfMemory fault not = tt
+
+-- the line that was given captures
+pub stops_more : (before : Reporting) (file : CaptureFile) (bytes : List ℕ) (state : State) (a b d : Option (List ℕ)) (lines lines' : LinesState)
+    (source source' : Option (List ℕ)) (trial : Trial) (left : Option (List ℕ)) (line : Line) (answer : TrialStatus)
+    → LedOn before file bytes state a b lines source trial left
+    → LosesLine (to_come lines source) (to_come lines' source') line.bytes → line.number ≡ lines.given + 1
+    → (answer ≡ status.TapeFault → HasStep line.number line.bytes (Some step.Cap) × Appends b d trial.reporter.text) → answer ≢ status.ScheduleFault
+    → StopsLines before file (lines_of bytes) state source' a d answer
+stops_more before file bytes state a b d lines lines' source source' trial left line answer on loses number fault not =
+    let l = losing (to_come lines source) (to_come lines' source') on.rest line.bytes on.rest_is loses in
+    stops_capture before file (lines_of bytes) state source' a d answer (λ is.
+    let at : HasStep (lines.given + 1) line.bytes (Some step.Cap) = subst (λ (n : ℕ). HasStep n line.bytes (Some step.Cap)) number (fault is).0 in (
+      lines.given + 1,
+      lines_of on.rest,
+      subst (IsAtCapture (lines.given + 1)) (sym l.2) at,
+      led_here before file (lines_of bytes) state a b d (lines.given + 1) (lines_of on.rest) trial left on.led (fault is).1,
+    )) not
+
+false_from : (b : Bool) → (b ≡ true → ⊥) → b ≡ false
+false_from true not = absurd (not refl)
+false_from false not = refl
+
+-- the next line can't be read
+pub stops_read : (before : Reporting) (file : CaptureFile) (bytes : List ℕ) (state : State) (a b : Option (List ℕ)) (lines lines' : LinesState)
+    (source source' : Option (List ℕ)) (trial : Trial) (left : Option (List ℕ)) → LedOn before file bytes state a b lines source trial left
+    → trial.reporter.text ≡ [] → Keeps (to_come lines source) (to_come lines' source') → (holds_line lines'.held ≡ true → ⊥)
+    → StopsLines before file (lines_of bytes) state source' a b status.ScheduleFault
+stops_read before file bytes state a b lines lines' source None trial left on empty keeps not = tt
+stops_read before file bytes state a b lines lines' source (Some unread) trial left on empty keeps not =
+    let same : lines'.held ++ unread ≡ on.rest =
+    subst (λ (o : Option (List ℕ)). Keeps o (Some (lines'.held ++ unread))) on.rest_is keeps in
+    let none : Appends b b trial.reporter.text = subst (Appends b b) (sym empty) (Appends-nil b) in (
+      lines.given + 1,
+      lines'.held,
+      false_from (holds_line lines'.held) not,
+      subst (λ (l : List ℕ). HasLed before file (lines_of bytes) state (lines.given + 1) (lines_of l) a b) (sym same)
+          (led_here before file (lines_of bytes) state a b b (lines.given + 1) (lines_of on.rest) trial left on.led none),
+    )
+
+-- all lines were run
+stops_behind : (before : Reporting) (file : CaptureFile) (lines : List (List ℕ)) (state : State) (unread a b c : Option (List ℕ)) (n : ℕ)
+    (trial : Trial) (left : Option (List ℕ)) (r : Result ⊤ TrialStatus) → LedTo HasStep before file 1 lines state a b n [] trial left
+    → IfErr r (λ e. e ≡ status.TapeFault → Appends b c trial.reporter.text) → IfErr r (λ e. e ≢ status.ScheduleFault)
+    → StopsLines before file lines state unread a c (answer_of r)
+stops_behind before file lines state unread a b c n trial left (Ok done) led wrote not = tt
+stops_behind before file lines state unread a b c n trial left (Err e) led wrote not =
+    stops_capture before file lines state unread a c e
+    (λ is. (n, [], tt, led_here before file lines state a b c n [] trial left led (wrote is))) not
+
+-- ---- a script
+
+run_of : (detail : Detail) (file : CaptureFile) (lines : List (List ℕ)) (n : ℕ) (rest : List (List ℕ)) (a b : Option (List ℕ))
+    → HasLed (new_reporter detail) file lines start n rest a b → HasRun detail file lines n rest a b
+run_of detail file lines n rest a b led = record { state = led.reached; reports = led.reports; run = led.run; writes = led.writes }
+
+of_lines : (detail : Detail) (file : CaptureFile) (lines : List (List ℕ)) (unread a b : Option (List ℕ)) (answer : TrialStatus)
+    → StopsLines (new_reporter detail) file lines start unread a b answer → Stops detail file lines unread a b answer
+of_lines detail file lines unread a b status.TapeFault (n, rest, at, led) = (n, rest, inr at, run_of detail file lines n rest a b led)
+of_lines detail file lines None a b status.ScheduleFault stops = tt
+of_lines detail file lines (Some unread) a b status.ScheduleFault (n, held, not, led) =
+    (n, held, not, run_of detail file lines n (lines_of (held ++ unread)) a b led)
+of_lines detail file lines unread a b status.Ok stops = tt
+of_lines detail file lines unread a b (status.Usage word) stops = tt
+of_lines detail file lines unread a b (status.BadTape kind place) stops = tt
+of_lines detail file lines unread a b (status.TapeFull tick) stops = tt
+of_lines detail file lines unread a b (status.UnitTooLarge tick) stops = tt
+of_lines detail file lines unread a b (status.AudioLength length) stops = tt
+of_lines detail file lines unread a b (status.BadSchedule line) stops = tt
+of_lines detail file lines unread a b status.WriteFault stops = tt
+of_lines detail file lines unread a b status.OutOfMemory stops = tt
+
+-- the capture file isn't opened
+unopened : (detail : Detail) (file : CaptureFile) (lines : List (List ℕ)) (unread a : Option (List ℕ)) (e : TapeError)
+    → Stops detail file lines unread a a (tape_status e)
+unopened detail file lines unread a tape_error.TapeFault = (
+  1,
+  lines,
+  inl (refl, refl),
+  record { state = start; reports = []; run = leads_none HasStep file 1 lines start; writes = Appends-nil a },
+)
+unopened detail file lines unread a tape_error.OutOfMemory = tt
+unopened detail file lines unread a (tape_error.BadTape kind place) = tt
+unopened detail file lines unread a (tape_error.TapeFull tick) = tt
+unopened detail file lines unread a (tape_error.UnitTooLarge tick) = tt
+unopened detail file lines unread a (tape_error.AudioLength length) = tt
+
+pub stops_unopened : (detail : Detail) (tape schedule unread a : Option (List ℕ)) (e : TapeError) (answer : TrialStatus) → answer ≡ tape_status e
+    → StopsIfTold detail tape schedule unread a a answer
+stops_unopened detail None schedule unread a e answer is = tt
+stops_unopened detail (Some tape) None unread a e answer is = tt
+stops_unopened detail (Some tape) (Some schedule) unread a e answer is =
+    subst (Stops detail (file_of tape) (lines_of schedule) unread a a) (sym is) (unopened detail (file_of tape) (lines_of schedule) unread a e)
+
+pub script_stops : (detail : Detail) (before : Reporting) (tape schedule unread a b left : Option (List ℕ)) (feed : Feeding)
+    (trial : Trial) (answer : TrialStatus) → before ≡ record { detail = detail; text = [] } → Opens tape left (Ok feed)
+    → ((file : CaptureFile) (left : Option (List ℕ)) → IsFeedOf feed file left → StandsFor trial file left start)
+    → ((file : CaptureFile) (state : State) (bytes : List ℕ) → StandsFor trial file left state → schedule ≡ Some bytes
+    → StopsLines before file (lines_of bytes) state unread a b answer) → StopsIfTold detail tape schedule unread a b answer
+script_stops detail before None schedule unread a b left feed trial answer same opens stands stops = tt
+script_stops detail before (Some tape) None unread a b left feed trial answer same opens stands stops = tt
+script_stops detail before (Some tape) (Some schedule) unread a b left feed trial answer same opens stands stops =
+    let file = file_of tape in
+    of_lines detail file (lines_of schedule) unread a b answer
+    (subst (λ (r : Reporting). StopsLines r file (lines_of schedule) start unread a b answer) same
+    (stops file start schedule (stands file left (feed_of tape feed left opens)) refl))
+
+pub script_stops_behind : (detail : Detail) (before : Reporting) (tape schedule unread a b c left left' : Option (List ℕ)) (feed : Feeding)
+    (trial new : Trial) (r : Result ⊤ TrialStatus) → before ≡ record { detail = detail; text = [] } → Opens tape left (Ok feed)
+    → ((file : CaptureFile) (left : Option (List ℕ)) → IsFeedOf feed file left → StandsFor trial file left start)
+    → ((file : CaptureFile) (state : State) (bytes : List ℕ) → StandsFor trial file left state → schedule ≡ Some bytes
+    → (n : ℕ) × LedTo HasStep before file 1 (lines_of bytes) state a b n [] new left')
+    → IfErr r (λ e. e ≡ status.TapeFault → Appends b c new.reporter.text) → IfErr r (λ e. e ≢ status.ScheduleFault)
+    → StopsIfTold detail tape schedule unread a c (answer_of r)
+script_stops_behind detail before tape schedule unread a b c left left' feed trial new r same opens stands led wrote not =
+    script_stops detail before tape schedule unread a c left feed trial (answer_of r) same opens stands (λ file state bytes there is.
+    let all = led file state bytes there is in
+    stops_behind before file (lines_of bytes) state unread a b c all.0 new left' r all.1 wrote not)
