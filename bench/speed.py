@@ -65,6 +65,11 @@ for n in [1, 4]:
     WORKLOADS.append((f"turns of {n}", ["turns", n], n, None))
 for n in [1, 4]:
     WORKLOADS.append((f"views of {n}", ["views", n], n, None))
+# cores of clients that are made, each of which takes a datagram: what a session costs its client to open
+WINDOWS = [1, 4]
+MADE = {f"new, window {n}" for n in WINDOWS}
+for n in WINDOWS:
+    WORKLOADS.append((f"new, window {n}", ["new", *FRAME[:2], n], 1, None))
 COUNTED |= {"choose", "turns of 1", "turns of 4", "views of 1", "views of 4"}
 # datagrams that a schedule of gstrial delivers line by line, of so many a frame
 SINGLES = 60_000
@@ -152,10 +157,14 @@ def time_workloads(args):
     print(f"{platform.machine()}, shards of {LEN} bytes, best of {args.rounds} rounds, MB of data a {unit}")
     print(f"{'workload':<24}{'gsbench':>10}{'peer':>10}{'ratio':>8}")
     for name, _, _, line in WORKLOADS:
+        if name in MADE:
+            continue
         peer = peers.pop(line, None)
         digits = 2 if name in COUNTED else 0
         rest = f"{peer / 1e6:>10.{digits}f}{best[name] / peer:>8.2f}" if peer else f"{'-':>10}{'-':>8}"
         print(f"{name:<24}{best[name] / 1e6:>10.{digits}f}{rest}")
+    for name in sorted(MADE):
+        print(f"{name:<24}{1e6 / best[name]:>10.2f} microseconds a call")
     print("messages, choices, turns and views: millions a second, of all threads together")
     print("the peer's messages go through the system's sockets, those of gsbench stay in memory")
 

@@ -5,7 +5,8 @@ use Rattle.std.specs.Cmp.Lexicographic.{pointwise}
 use Rattle.std.specs.List.{slice_get}
 use Rattle.std.specs.Option.{option_map_or}
 use Rattle.std.specs.declared.alloc.Global.{Global}
-use Rattle.gs_bytes.specs.Limits.{most_unit}
+use Rattle.gs_bytes.specs.Limits.{most_generated, most_unit}
+use Rattle.gs_frames.specs.Client.{least_window, most_window}
 use Rattle.gs_rtp.specs.Limits.{least_packet, most_packet, most_percentage, most_frame}
 use Rattle.gsbench.specs.declared.report.Report.{Report}
 use Rattle.gsbench.specs.declared.report.Stop.{Stop}
@@ -65,7 +66,7 @@ split_limits = frame_limits (any_count ∷ [])
 
 -- the number of a generated capture, and how many ticks it has
 abbrev pub tape_limits : List Limits
-tape_limits = any_number ∷ from_to 1 2000 ∷ any_count ∷ []
+tape_limits = any_number ∷ from_to 1 most_generated ∷ any_count ∷ []
 
 -- a turn is a frame's number
 abbrev pub choose_limits : List Limits
@@ -78,6 +79,11 @@ turns_limits = from_to 1 16 ∷ any_count ∷ []
 -- viewers that read one capture
 abbrev pub views_limits : List Limits
 views_limits = from_to 1 16 ∷ any_count ∷ []
+
+-- a packet size, a percentage of parity, and the frames of a client's window
+abbrev pub new_limits : List Limits
+new_limits =
+    from_to least_packet most_packet ∷ from_to 0 most_percentage ∷ from_to least_window most_window ∷ any_count ∷ []
 
 -- the first word, no bytes where there is none
 abbrev pub first_word : List (String Global) → List ℕ
@@ -99,7 +105,8 @@ workload_named name =
     else (if pointwise nat_eq name (codes "turns") then Some workload.Turns
     else (if pointwise nat_eq name (codes "views") then Some workload.Views
     else (if pointwise nat_eq name (codes "take") then Some workload.Take
-    else None))))))))))))
+    else (if pointwise nat_eq name (codes "new") then Some workload.New
+    else None)))))))))))))
 
 -- what the words of a workload are to be
 abbrev pub limits_of : List (String Global) → Workload → List Limits
@@ -116,6 +123,7 @@ limits_of words workload.Choose = choose_limits
 limits_of words workload.Turns = turns_limits
 limits_of words workload.Views = views_limits
 limits_of words workload.Take = take_limits
+limits_of words workload.New = new_limits
 
 -- the number, from 1, of the first word that doesn't fit or is missing: the first one where it names no workload
 abbrev pub misfit_at : List (String Global) → Option Workload → Option ℕ

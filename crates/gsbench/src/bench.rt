@@ -5,7 +5,7 @@ ghost use Rattle.gsbench.specs.Workloads.{IsJudged, IsJudgedBy, first_word, limi
 
 use crate::report::{Report, Stop};
 use crate::workload::{Workload, workload_named};
-use crate::{choose, codes, frames, messages, receive, rows, take, tape, turns, views};
+use crate::{choose, codes, frames, messages, new_client, receive, rows, take, tape, turns, views};
 use std::alloc::Global;
 use std::sync::Wait;
 use std::thread::Threads;
@@ -44,6 +44,7 @@ fn run<R: Threads + Wait + Sync>(
         Workload::Turns => turns::run(rt, alloc, words),
         Workload::Views => views::run(rt, alloc, words),
         Workload::Take => take::run(alloc, words),
+        Workload::New => new_client::run(alloc, words),
     }
 }
 

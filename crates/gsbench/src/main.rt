@@ -9,6 +9,7 @@
 //! | `messages BATCH COUNT` | brings a message of 16 bytes from one ENet peer to another in memory |
 //! | `receive Z P LEN EVERY COUNT` | takes the datagrams of a frame of LEN bytes at packet size Z and percentage P of parity, and hands it; each EVERY-th datagram is lost, none at 0 |
 //! | `take Z P LEN EVERY COUNT` | the same with a client's core, which gives the unit |
+//! | `new Z P WINDOW COUNT` | makes a client's core at packet size Z, percentage P and a window of WINDOW frames, which takes a datagram and is dropped |
 //! | `split Z P LEN COUNT` | splits a frame of LEN bytes at packet size Z and percentage P of parity, and writes each datagram |
 //! | `choose COUNT` | chooses a unit of a tick for a session, which has lost its last three frames each time that 30 were sent |
 //! | `tape N T COUNT` | reads the capture file of the T ticks that N generates, which is written to memory once |
@@ -30,6 +31,7 @@ mod choose;
 mod codes;
 mod frames;
 mod messages;
+mod new_client;
 mod receive;
 mod report;
 mod rows;

@@ -1,11 +1,12 @@
 // Frames received: their datagrams through a queue, and what is handed through a depack.
-ghost use Rattle.std.specs.Prelude.{◌≡◌, ◌<◌, ◌≤◌, ◌∷◌, List, length, map, IfErr, IfOk};
+ghost use Rattle.std.specs.Prelude.{◌≡◌, ◌<◌, ◌≤◌, ◌^◌, ◌∷◌, ◌++◌, List, length, map, IfErr, IfOk};
 ghost use Rattle.gs_rtp.specs.Limits.{most_packet};
 ghost use Rattle.gs_frames.specs.Client.{ClientSettings, Arrival, Datagram};
 ghost use Rattle.gs_frames.specs.Datagrams.{OutgoingFrame, frame_datagrams};
 ghost use Rattle.gs_fecqueue.specs.Standing.{StandsFor};
 ghost use Rattle.gs_split.specs.Splitting.{IsLoaded};
 ghost use Rattle.gsbench.specs.Report.{IsNoUsage};
+ghost use Rattle.gsbench.specs.Sending.{arrivals_of, is_lost, numbered};
 ghost use Rattle.gsbench.specs.Workloads.{IsJudged, receive_limits};
 
 use crate::frames::{KIND_IDR, ROOM};
@@ -65,6 +66,7 @@ pub fn datagrams_of(
     requires packet { splitter.old.settings.packet ≤ most_packet }
     ensures kept { splitter.new ≡ splitter.old }
     ensures no_usage { IfErr result (λ stop. IsNoUsage stop) }
+    ensures number { IfOk result (λ all. length all.items ≡ number) }
     ensures datagrams { IfOk result (λ all. (sent : OutgoingFrame) → IsLoaded splitter.old sent → sent.unit ≡ unit.now
         → map (λ datagram. datagram.items) all.items ≡ frame_datagrams splitter.old.settings sent) }
 {
@@ -78,7 +80,7 @@ pub fn datagrams_of(
     Ok(all)
 }
 
-// Sends the frame under so many numbers, and answers the last one handed.
+// Sends the frame under so many numbers, each EVERY-th datagram of which is lost, and answers the last one handed.
 fn receive_often(
     queue: &mut Queue,
     datagrams: &mut [Vec<u8>],
@@ -86,16 +88,19 @@ fn receive_often(
     every: u32,
     count: u32,
 ) -> u32
-    requires { count ≤ 1048576 }
+    requires count { count ≤ 1048576 }
+    requires few { length datagrams.old < 2 ^ 32 }
+    ensures { (c : ClientSettings) (came : List Arrival) → StandsFor queue.old c came
+        → StandsFor queue.new c (arrivals_of every count (map (λ datagram. datagram.items) datagrams.old) ++ came) }
 {
     let mut depack = Depack::new(1);
-    let mut sent = 0_u32;
+    let mut sent = 0_u64;
     let mut last = 0;
-    for frame in 1..count + 1 {
-        for datagram in datagrams.iter_mut() {
+    'frames: for frame in 1..count + 1 {
+        'datagrams: for datagram in datagrams.iter_mut() {
             set_frame(datagram, frame);
-            sent = sent.wrapping_add(1);
-            if every == 0 || sent % every != 0 {
+            sent += 1;
+            if !is_lost(every, sent) {
                 last = receive(queue, &mut depack, datagram, payload, frame).unwrap_or(last);
             }
         }
@@ -103,9 +108,16 @@ fn receive_often(
     last
 }
 
-/// Writes the number of the frame into its datagram.
+/// Whether a datagram is lost, by its number from 1.
+pub fn is_lost(every: u32, number: u64) -> bool
+    ensures { result ≡ is_lost every number }
+{
+    every != 0 && number % u64::from(every) == 0
+}
+
+/// Writes the number of the frame into its datagram, where that has a whole header.
 pub fn set_frame(datagram: &mut [u8], frame: u32)
-    ensures { length datagram.new ≡ length datagram.old }
+    ensures { datagram.new ≡ numbered frame datagram.old }
 {
     if datagram.len() >= VIDEO_HEADER_LENGTH {
         LittleEndian::write_u32(&mut datagram[FRAME..], frame);

@@ -1,11 +1,12 @@
 // Frames taken by a client's core, which gives their units.
-ghost use Rattle.std.specs.Prelude.{◌<◌, ◌≤◌, ◌∷◌, ℕ, List, IfOk};
+ghost use Rattle.std.specs.Prelude.{◌<◌, ◌≤◌, ◌^◌, ◌∷◌, ◌++◌, ℕ, List, length, map, IfOk};
 ghost use Rattle.gs_frames.specs.Client.{ClientSettings, Arrival, Datagram};
 ghost use Rattle.gs_client_core.specs.Standing.{StandsFor};
+ghost use Rattle.gsbench.specs.Sending.{arrivals_of};
 ghost use Rattle.gsbench.specs.Workloads.{IsJudged, take_limits};
 
 use crate::frames::KIND_IDR;
-use crate::receive::{datagrams_of, set_frame};
+use crate::receive::{datagrams_of, is_lost, set_frame};
 use crate::report::{Counted, Report, Stop};
 use crate::sample::{SEED, checksum, made};
 use crate::settings::settings_of;
@@ -40,18 +41,22 @@ pub fn run(alloc: Global, words: &[String]) -> Result<Report, Stop>
     })
 }
 
-// Sends the frame under so many numbers. Answers the checksum of the unit that the last one gives, of no bytes where it
+// Sends the frame under so many numbers, each EVERY-th datagram of which is lost. Answers the checksum of the unit that the last one gives, of no bytes where it
 // gives none.
 fn take_often(client: &mut Client, datagrams: &mut [Vec<u8>], every: u32, count: u32) -> u32
-    requires { count ≤ 1048576 }
+    requires count { count ≤ 1048576 }
+    requires few { length datagrams.old < 2 ^ 32 }
+    ensures { (c : ClientSettings) (came : List Arrival) (sound : List (List ℕ)) → StandsFor client.old c came sound
+        → StandsFor client.new c (arrivals_of every count (map (λ datagram. datagram.items) datagrams.old) ++ came)
+        sound }
 {
-    let mut sent = 0_u32;
+    let mut sent = 0_u64;
     let mut sum = checksum(&[]);
-    for frame in 1..count + 1 {
-        for datagram in datagrams.iter_mut() {
+    'frames: for frame in 1..count + 1 {
+        'datagrams: for datagram in datagrams.iter_mut() {
             set_frame(datagram, frame);
-            sent = sent.wrapping_add(1);
-            if every == 0 || sent % every != 0 {
+            sent += 1;
+            if !is_lost(every, sent) {
                 sum = take(client, datagram, frame == count).unwrap_or(sum);
             }
         }

@@ -3,7 +3,7 @@ ghost use Rattle.std.specs.Prelude.{◌≡◌, ◌*◌, ◌<◌, ◌≤◌, leng
 ghost use Rattle.std.specs.Arc.{arc_value};
 ghost use Rattle.std.specs.List.{All, sum_by};
 ghost use Rattle.gs_tape.specs.Generated.{generated};
-ghost use Rattle.gs_tape.specs.Limits.{most_bytes};
+ghost use Rattle.gs_tape.specs.Limits.{most_bytes, most_generated};
 ghost use Rattle.gs_tape.specs.Reading.{ticks_of};
 ghost use Rattle.gs_tape.specs.Tick.{unit_bytes};
 ghost use Rattle.gsbench.specs.Checksum.{fnv_1a};
@@ -16,15 +16,12 @@ use crate::sample::checksum;
 use crate::shared::SharedSource;
 use crate::words::{expect_end, number_at};
 use gs_bytes::SureSink;
-use gs_tape::{Tape, Tick, Unit, write_generated};
+use gs_tape::{MOST_GENERATED, Tape, Tick, Unit, write_generated};
 use std::alloc::Global;
 use std::sync::Arc;
 
 // The most bytes that are written at once.
 const MOST_WRITTEN: usize = 1 << 20;
-
-// The most ticks that are generated.
-const MOST_TICKS: u32 = 2_000;
 
 // How many hold a tick beside the one that read it.
 const HOLDERS: usize = 8;
@@ -51,7 +48,7 @@ fn run_with(alloc: Global, words: &[String], holders: usize) -> Result<Report, S
     ensures amount { IfOk result (λ report. 0 < report.amount) }
 {
     let number = number_at(words, 1, 0, u32::MAX)?;
-    let ticks = number_at(words, 2, 1, MOST_TICKS)?;
+    let ticks = number_at(words, 2, 1, MOST_GENERATED)?;
     let count = number_at(words, 3, 1, u32::MAX)?;
     expect_end(words, 4)?;
     read_often(alloc, number, ticks, holders, count)
@@ -59,7 +56,7 @@ fn run_with(alloc: Global, words: &[String], holders: usize) -> Result<Report, S
 
 // Writes the file of the ticks that a number generates.
 fn written(alloc: Global, number: u32, ticks: u32) -> Result<SureSink, Stop>
-    requires { ticks ≤ 2000 }
+    requires { ticks ≤ most_generated }
     ensures ticks { IfOk result (λ sink. ticks_of sink.written ≡ generated number ticks) }
     ensures no_usage { IfErr result (λ stop. IsNoUsage stop) }
 {
@@ -70,7 +67,7 @@ fn written(alloc: Global, number: u32, ticks: u32) -> Result<SureSink, Stop>
 
 // The file of the ticks that a number generates.
 fn generated_file(alloc: Global, number: u32, ticks: u32) -> Result<Unit, Stop>
-    requires { ticks ≤ 2000 }
+    requires { ticks ≤ most_generated }
     ensures ticks { IfOk result (λ file. ticks_of file ≡ generated number ticks) }
     ensures no_usage { IfErr result (λ stop. IsNoUsage stop) }
 {
@@ -87,7 +84,7 @@ fn read_often(
     holders: usize,
     count: u32,
 ) -> Result<Report, Stop>
-    requires ticks { (1 ≤ ticks) × (ticks ≤ 2000) }
+    requires ticks { (1 ≤ ticks) × (ticks ≤ most_generated) }
     requires count { 1 ≤ count }
     ensures amount { IfOk result (λ report. report.amount ≡ count * sum_by unit_bytes (generated number ticks)) }
     ensures some { IfOk result (λ report. 0 < report.amount) }

@@ -18,6 +18,7 @@ pub enum Workload {
     Turns,
     Views,
     Take,
+    New,
 }
 
 /// The workload of a name.
@@ -62,6 +63,9 @@ pub fn workload_named(name: &[u8]) -> Option<Workload>
     }
     if name == b"take".as_slice() {
         return Some(Workload::Take);
+    }
+    if name == b"new".as_slice() {
+        return Some(Workload::New);
     }
     None
 }

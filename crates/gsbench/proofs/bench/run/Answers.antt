@@ -62,3 +62,7 @@ returns-in-Views-clause-usage g c =
 pub returns-in-Take-clause-usage : goal.returns-in-Take-clause-usage
 returns-in-Take-clause-usage g c =
     subst (IsJudgedAs c.args.words.now c.run-in-Take.result) (sym c.in-Take.is) c.run-in-Take.ensures.usage
+
+pub returns-in-New-clause-usage : goal.returns-in-New-clause-usage
+returns-in-New-clause-usage g c =
+    subst (IsJudgedAs c.args.words.now c.run-in-New.result) (sym c.in-New.is) c.run-in-New.ensures.usage

@@ -1,6 +1,6 @@
-use Rattle.std.proofs.Common.{◌≡◌, ◌∷◌, [], ◌++◌, map, take, ◌∙◌, refl, rules}
+use Rattle.std.proofs.Common.{◌≡◌, ◌+◌, ◌∷◌, [], ◌++◌, length, map, take, ◌∙◌, ap, arith, refl, rules}
 use Rattle.std.specs.Vec.{vec_items}
-use Rattle.std.proofs.lemmas.List.{map-append}
+use Rattle.std.proofs.lemmas.List.{length-append, map-append}
 use Rattle.gsbench.proofs.Splits.{first_next}
 use Rattle.gsbench.proofs.receive.datagrams_of.Goals as goal
 
@@ -13,4 +13,8 @@ datagrams-preserved c =
     record {
       stays = c.datagram-length.ensures.kept ∙ c.datagrams.invariant.stays;
       first = first_next _ _ _ _ _ _ _ _ c.datagram-length.ensures.kept more c.datagram-length.ensures.datagram c.datagrams.invariant.first;
+      long = ap length pushed ∙ length-append c.datagrams.all.items (c.in_ok-datagram.datagram ∷ []) ∙ ap (λ n. n + 1) c.datagrams.invariant.long;
     }
+
+pub returns-clause-number : goal.returns-clause-number
+returns-clause-number c = omega (arith, c.datagrams.invariant.long, c.datagrams-test.false, c.datagrams.auto.k-end)
