@@ -25,7 +25,8 @@ pub(crate) fn write_tape<K: Sink>(
     out: &mut K,
 ) -> Result<(), TrialStatus>
     requires few { generated.ticks ≤ most_generated }
-    ensures answers { AnswersTape generated.number generated.ticks (K.written out.old) (K.written out.new) (answer_of result) }
+    ensures answers { AnswersTape generated.number generated.ticks (K.written out.old) (K.written out.new)
+        (answer_of result) }
     ensures cause { IfErr result (λ e. (e ≡ TrialStatus.WriteFault) ⊎ (e ≡ TrialStatus.OutOfMemory)) }
     ensures write_faults { CountsFor TrialStatus.WriteFault result (K.faults out.old) (K.faults out.new) }
 {
@@ -66,15 +67,16 @@ fn copy<K: Sink>(tape: &mut GeneratedFile, piece: &mut [u8], out: &mut K) -> Res
     }
 }
 
-/// Runs the generated schedule over the generated capture, which is read as any file. Reading it fails for want of memory
-/// alone.
+/// Runs the generated schedule over the generated capture, which is read as any file. Reading it fails for want of
+/// memory alone.
 pub(crate) fn make<K: Sink>(
     alloc: Global,
     generated: Generated,
     out: &mut K,
 ) -> Result<(), TrialStatus>
     requires few { generated.ticks ≤ most_generated }
-    ensures answers { AnswersMake generated.number generated.ticks (K.written out.old) (K.written out.new) (answer_of result) }
+    ensures answers { AnswersMake generated.number generated.ticks (K.written out.old) (K.written out.new)
+        (answer_of result) }
     ensures cause { IfErr result IsCause }
     ensures not_tape { IfErr result (λ e. e ≢ TrialStatus.TapeFault) }
     ensures not_schedule { IfErr result (λ e. e ≢ TrialStatus.ScheduleFault) }

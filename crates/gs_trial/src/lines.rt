@@ -28,21 +28,26 @@ impl Trial {
     ) -> Result<(), TrialStatus>
         requires ready { IsReady self.old }
         ensures ready { OnOk result (IsReady self.new) }
-        ensures led { OnOk result ((file : CaptureFile) (state : State) (bytes : List ℕ) → StandsFor self.old file (S.left tape.old) state
+        ensures led { OnOk result ((file : CaptureFile) (state : State) (bytes : List ℕ)
+            → StandsFor self.old file (S.left tape.old) state
             → T.left schedule.old ≡ Some bytes → (n : ℕ) × LedTo HasStep self.old.reporter file 1 (lines_of bytes) state
             (K.written out.old) (K.written out.new) n [] self.new (S.left tape.new)) }
-        ensures ends { IfErr result (λ answer. (file : CaptureFile) (state : State) (bytes : List ℕ) → StandsFor self.old file (S.left tape.old) state
+        ensures ends { IfErr result (λ answer. (file : CaptureFile) (state : State) (bytes : List ℕ)
+            → StandsFor self.old file (S.left tape.old) state
             → T.left schedule.old ≡ Some bytes → EndsRun HasStep self.old.reporter file 1 (lines_of bytes) state
             (K.written out.old) (K.written out.new) answer) }
-        ensures stops { IfErr result (λ answer. (file : CaptureFile) (state : State) (bytes : List ℕ) → StandsFor self.old file (S.left tape.old) state
-            → T.left schedule.old ≡ Some bytes → StopsLines self.old.reporter file (lines_of bytes) state (T.left schedule.new)
+        ensures stops { IfErr result (λ answer. (file : CaptureFile) (state : State) (bytes : List ℕ)
+            → StandsFor self.old file (S.left tape.old) state
+            → T.left schedule.old ≡ Some bytes
+            → StopsLines self.old.reporter file (lines_of bytes) state (T.left schedule.new)
             (K.written out.old) (K.written out.new) answer) }
         ensures cause { IfErr result IsCause }
         ensures at_end { OnOk result (IsAtEnd (T.left schedule.new)) }
         ensures met_end { OnOk result (SetsFlag (T.met_end schedule.old) (T.met_end schedule.new)) }
         ensures not_met { OnOk result (KeepsFlag (S.met_end tape.old) (S.met_end tape.new)) }
         ensures tape_faults { CountsFor TrialStatus.TapeFault result (S.faults tape.old) (S.faults tape.new) }
-        ensures schedule_faults { CountsFor TrialStatus.ScheduleFault result (T.faults schedule.old) (T.faults schedule.new) }
+        ensures schedule_faults { CountsFor TrialStatus.ScheduleFault result (T.faults schedule.old)
+            (T.faults schedule.new) }
         ensures write_faults { CountsFor TrialStatus.WriteFault result (K.faults out.old) (K.faults out.new) }
     {
         let mut lines = Lines::new(self.alloc);
@@ -83,13 +88,16 @@ impl Trial {
         requires numbered { line.now.number < 2 ^ 32 - 1 }
         requires ready { IsReady self.old }
         ensures ready { OnOk result (IsReady self.new) }
-        ensures led { OnOk result ((file : CaptureFile) (state : State) (rest : List (List ℕ)) → StandsFor self.old file (S.left tape.old) state
+        ensures led { OnOk result ((file : CaptureFile) (state : State) (rest : List (List ℕ))
+            → StandsFor self.old file (S.left tape.old) state
             → LedTo HasStep self.old.reporter file line.now.number (line.now.bytes ∷ rest) state
             (K.written out.old) (K.written out.new) (line.now.number + 1) rest self.new (S.left tape.new)) }
-        ensures ends { IfErr result (λ answer. (file : CaptureFile) (state : State) (rest : List (List ℕ)) → StandsFor self.old file (S.left tape.old) state
+        ensures ends { IfErr result (λ answer. (file : CaptureFile) (state : State) (rest : List (List ℕ))
+            → StandsFor self.old file (S.left tape.old) state
             → EndsRun HasStep self.old.reporter file line.now.number (line.now.bytes ∷ rest) state
             (K.written out.old) (K.written out.new) answer) }
-        ensures at_capture { IfErr result (λ e. e ≡ TrialStatus.TapeFault → HasStep line.now.number line.now.bytes (Some Cap)
+        ensures at_capture { IfErr result (λ e. e ≡ TrialStatus.TapeFault
+            → HasStep line.now.number line.now.bytes (Some Cap)
             × Appends (K.written out.old) (K.written out.new) self.old.reporter.text) }
         ensures cause { IfErr result IsCause }
         ensures not_met { OnOk result (KeepsFlag (S.met_end tape.old) (S.met_end tape.new)) }

@@ -61,7 +61,8 @@ impl Trial {
     // The settings of the next session, where they are within their limits.
     fn settings(&self, packet: u32, percentage: u32, minimum: u32) -> Option<Settings>
         requires room { length self.now.sessions.items < most_sessions }
-        ensures within { IsSome result ↔ AreNumbersOfSettings packet percentage minimum SESSION_FPS self.now.feed.tape.duration
+        ensures within { IsSome result ↔ AreNumbersOfSettings packet percentage minimum SESSION_FPS
+            self.now.feed.tape.duration
             self.now.feed.tape.audio (length self.now.sessions.items + 1) }
         ensures packet { IfSome result (λ s. s.packet ≡ packet) }
         ensures percentage { IfSome result (λ s. s.percentage ≡ percentage) }

@@ -18,9 +18,9 @@ use gs_reader::PIECE;
 use gs_schedule::{Lines, Step, TrialStatus};
 
 impl Trial {
-    /// Runs the step of this number. What it reports waits, until a piece is gathered or a source is read. Where a deed of
-    /// it was refused all that waits is written, and what it did before that; where a source failed or memory ran out
-    /// nothing of it is.
+    /// Runs the step of this number. What it reports waits, until a piece is gathered or a source is read. Where a deed
+    /// of it was refused all that waits is written, and what it did before that; where a source failed or memory ran
+    /// out nothing of it is.
     pub(crate) fn run_step<S: Source, K: Sink>(
         &mut self,
         step: &Step,
@@ -31,9 +31,12 @@ impl Trial {
         requires proper { IsProper step.now }
         requires ready { IsReady self.old }
         ensures ready { OnOk result (IsReady self.new) }
-        ensures ran { OnOk result ((file : CaptureFile) (state : State) → StandsFor self.old file (S.left tape.old) state
-            → RanStep self.old.reporter file step.now state (K.written out.old) (K.written out.new) self.new (S.left tape.new)) }
-        ensures ends { IfErr result (λ answer. (file : CaptureFile) (state : State) → StandsFor self.old file (S.left tape.old) state
+        ensures ran { OnOk result ((file : CaptureFile) (state : State)
+            → StandsFor self.old file (S.left tape.old) state
+            → RanStep self.old.reporter file step.now state (K.written out.old) (K.written out.new) self.new
+            (S.left tape.new)) }
+        ensures ends { IfErr result (λ answer. (file : CaptureFile) (state : State)
+            → StandsFor self.old file (S.left tape.old) state
             → EndsStep self.old.reporter file number step.now state (K.written out.old) (K.written out.new) answer) }
         ensures at_capture { IfErr result (λ e. e ≡ TrialStatus.TapeFault
             → (step.now ≡ Step.Cap) × Appends (K.written out.old) (K.written out.new) self.old.reporter.text) }
@@ -59,7 +62,8 @@ impl Trial {
     fn write_before_step<K: Sink>(&mut self, step: &Step, out: &mut K) -> Result<(), TrialStatus>
         ensures kept { IsSameButText self.old self.new }
         ensures first { OnOk result (step.now ≡ Step.Cap → self.new.reporter.text ≡ []) }
-        ensures up_to { OnOk result (WritesUpTo (K.written out.old) (K.written out.new) self.old.reporter.text self.new.reporter.text) }
+        ensures up_to { OnOk result (WritesUpTo (K.written out.old) (K.written out.new) self.old.reporter.text
+            self.new.reporter.text) }
         ensures err { OnErr result (AppendsPart (K.written out.old) (K.written out.new) self.old.reporter.text) }
         ensures cause { IfErr result (λ e. (e ≡ TrialStatus.WriteFault) ⊎ (e ≡ TrialStatus.OutOfMemory)) }
         ensures faults { CountsFor TrialStatus.WriteFault result (K.faults out.old) (K.faults out.new) }
@@ -79,7 +83,8 @@ impl Trial {
     ) -> Result<(), TrialStatus>
         ensures kept { IsSameButText self.old self.new }
         ensures first { OnOk result ((holds_line lines.now.held ≡ true) ⊎ (self.new.reporter.text ≡ [])) }
-        ensures up_to { OnOk result (WritesUpTo (K.written out.old) (K.written out.new) self.old.reporter.text self.new.reporter.text) }
+        ensures up_to { OnOk result (WritesUpTo (K.written out.old) (K.written out.new) self.old.reporter.text
+            self.new.reporter.text) }
         ensures err { OnErr result (AppendsPart (K.written out.old) (K.written out.new) self.old.reporter.text) }
         ensures cause { IfErr result (λ e. (e ≡ TrialStatus.WriteFault) ⊎ (e ≡ TrialStatus.OutOfMemory)) }
         ensures faults { CountsFor TrialStatus.WriteFault result (K.faults out.old) (K.faults out.new) }
@@ -94,7 +99,8 @@ impl Trial {
     // Writes the text that waits, once it makes a piece.
     fn write_piece<K: Sink>(&mut self, out: &mut K) -> Result<(), TrialStatus>
         ensures kept { IsSameButText self.old self.new }
-        ensures up_to { OnOk result (WritesUpTo (K.written out.old) (K.written out.new) self.old.reporter.text self.new.reporter.text) }
+        ensures up_to { OnOk result (WritesUpTo (K.written out.old) (K.written out.new) self.old.reporter.text
+            self.new.reporter.text) }
         ensures err { OnErr result (AppendsPart (K.written out.old) (K.written out.new) self.old.reporter.text) }
         ensures cause { IfErr result (λ e. (e ≡ TrialStatus.WriteFault) ⊎ (e ≡ TrialStatus.OutOfMemory)) }
         ensures faults { CountsFor TrialStatus.WriteFault result (K.faults out.old) (K.faults out.new) }

@@ -25,8 +25,8 @@ use gs_run::whole_runs_hold;
 use gs_schedule::{Output, TrialStatus};
 use std::alloc::Global;
 
-/// Runs a schedule over a capture file: the file's head, then line after line, then the rest of the file, then the sums and
-/// `ok`. What lines report is gathered, and written before either is read again.
+/// Runs a schedule over a capture file: the file's head, then line after line, then the rest of the file, then the sums
+/// and `ok`. What lines report is gathered, and written before either is read again.
 pub(crate) fn run_script<S: Source, T: Source, K: Sink>(
     alloc: Global,
     detail: Detail,
@@ -34,16 +34,19 @@ pub(crate) fn run_script<S: Source, T: Source, K: Sink>(
     schedule: &mut T,
     out: &mut K,
 ) -> Result<(), TrialStatus>
-    ensures answers { AnswersIfTold detail (S.left tape.old) (T.left schedule.old) (K.written out.old) (K.written out.new) (answer_of result) }
+    ensures answers { AnswersIfTold detail (S.left tape.old) (T.left schedule.old) (K.written out.old)
+        (K.written out.new) (answer_of result) }
     ensures stops { StopsIfTold detail (S.left tape.old) (T.left schedule.old) (T.left schedule.new)
         (K.written out.old) (K.written out.new) (answer_of result) }
     ensures headless { (HasHead (S.left tape.old) → ⊥) → (schedule.new ≡ schedule.old) × (out.new ≡ out.old) }
     ensures cause { IfErr result IsCause }
     ensures head_first { IfErr result (λ e. e ≡ TrialStatus.ScheduleFault → HasHead (S.left tape.old)) }
     ensures at_end { OnOk result (IsAtEnd (S.left tape.new) × IsAtEnd (T.left schedule.new)) }
-    ensures met_end { OnOk result (SetsFlag (S.met_end tape.old) (S.met_end tape.new) × SetsFlag (T.met_end schedule.old) (T.met_end schedule.new)) }
+    ensures met_end { OnOk result (SetsFlag (S.met_end tape.old) (S.met_end tape.new)
+        × SetsFlag (T.met_end schedule.old) (T.met_end schedule.new)) }
     ensures tape_faults { CountsFor TrialStatus.TapeFault result (S.faults tape.old) (S.faults tape.new) }
-    ensures schedule_faults { CountsFor TrialStatus.ScheduleFault result (T.faults schedule.old) (T.faults schedule.new) }
+    ensures schedule_faults { CountsFor TrialStatus.ScheduleFault result (T.faults schedule.old)
+        (T.faults schedule.new) }
     ensures write_faults { CountsFor TrialStatus.WriteFault result (K.faults out.old) (K.faults out.new) }
 {
     whole_runs_hold();
@@ -65,8 +68,10 @@ impl Trial {
     ) -> Result<(), TrialStatus>
         requires ready { IsReady self.old }
         ensures finishes { (file : CaptureFile) (state : State) → StandsFor self.old file (S.left tape.old) state
-            → WritesBehind self.old.reporter (finished file.fault state) (K.written out.old) (K.written out.new) (answer_of result) }
-        ensures at_rest { IfErr result (λ e. e ≡ TrialStatus.TapeFault → Appends (K.written out.old) (K.written out.new) self.old.reporter.text) }
+            → WritesBehind self.old.reporter (finished file.fault state) (K.written out.old) (K.written out.new)
+            (answer_of result) }
+        ensures at_rest { IfErr result (λ e. e ≡ TrialStatus.TapeFault
+            → Appends (K.written out.old) (K.written out.new) self.old.reporter.text) }
         ensures cause { IfErr result IsCause }
         ensures not_schedule { IfErr result (λ e. e ≢ TrialStatus.ScheduleFault) }
         ensures at_end { OnOk result (IsAtEnd (S.left tape.new)) }
@@ -86,7 +91,8 @@ impl Trial {
 
     // The sums of each session, and that all is done.
     fn report_sums(&mut self) -> Result<(), OutOfMemory>
-        ensures sums { OnOk result ((ticks : List Tick) (sessions : List Session) → AreSessions ticks 1 self.old.sessions.items sessions
+        ensures sums { OnOk result ((ticks : List Tick) (sessions : List Session)
+            → AreSessions ticks 1 self.old.sessions.items sessions
             → self.new.reporter ≡ with_reports self.old.reporter (totals_from 1 sessions ++ plain output.Done ∷ [])) }
         ensures detail { self.new.reporter.detail ≡ self.old.reporter.detail }
     {

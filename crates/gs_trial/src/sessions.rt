@@ -97,7 +97,8 @@ impl Trial {
         ensures feed { self.new.feed ≡ self.old.feed }
         ensures own { IfErr result IsOwn }
         ensures ran { (file : CaptureFile) (left : Option (List ℕ)) (state : State) → StandsFor self.old file left state
-            → StepsIfTold file (step.Pump session every) state left self.new self.old.reporter self.new.reporter result }
+            → StepsIfTold file (step.Pump session every) state left self.new self.old.reporter self.new.reporter
+            result }
     {
         let place = self.place(session)?;
         let done = self.sessions[place].pump(every, self.moment, &mut self.reporter)?;

@@ -27,7 +27,8 @@ impl Trial {
             → StepsIfTold file step.now state (S.left tape.new) self.new self.old.reporter self.new.reporter result }
         ensures not_met { OnOk result (KeepsFlag (S.met_end tape.old) (S.met_end tape.new)) }
         ensures only_cap { result ≡ Err (StepError.Tape TapeError.TapeFault) → step.now ≡ Step.Cap }
-        ensures fault { result ≡ Err (StepError.Tape TapeError.TapeFault) → Rose (S.faults tape.old) (S.faults tape.new) }
+        ensures fault { result ≡ Err (StepError.Tape TapeError.TapeFault)
+            → Rose (S.faults tape.old) (S.faults tape.new) }
         ensures counted { S.faults tape.new ≢ S.faults tape.old → result ≡ Err (StepError.Tape TapeError.TapeFault) }
     {
         match *step {
@@ -63,9 +64,11 @@ impl Trial {
         requires ready { IsReady self.old }
         ensures ready { OnOk result (IsReady self.new) }
         ensures ran { (file : CaptureFile) (state : State) → StandsFor self.old file (S.left tape.old) state
-            → RunsDeeds file (Capture ∷ []) state (S.left tape.new) self.new self.old.reporter self.new.reporter result }
+            → RunsDeeds file (Capture ∷ []) state (S.left tape.new) self.new self.old.reporter self.new.reporter
+            result }
         ensures not_met { OnOk result (KeepsFlag (S.met_end tape.old) (S.met_end tape.new)) }
-        ensures fault { result ≡ Err (StepError.Tape TapeError.TapeFault) → Rose (S.faults tape.old) (S.faults tape.new) }
+        ensures fault { result ≡ Err (StepError.Tape TapeError.TapeFault)
+            → Rose (S.faults tape.old) (S.faults tape.new) }
         ensures counted { S.faults tape.new ≢ S.faults tape.old → result ≡ Err (StepError.Tape TapeError.TapeFault) }
     {
         if !self.feed.capture(tape)? {

@@ -26,10 +26,12 @@ impl Trial {
         requires few { length steps.now < 2 ^ 32 - 1 }
         requires ready { IsReady self.old }
         ensures ready { OnOk result (IsReady self.new) }
-        ensures led { OnOk result ((file : CaptureFile) (state : State) → StandsFor self.old file (S.left tape.old) state
+        ensures led { OnOk result ((file : CaptureFile) (state : State)
+            → StandsFor self.old file (S.left tape.old) state
             → (n : ℕ) × LedTo IsStep self.old.reporter file 1 steps.now state
             (K.written out.old) (K.written out.new) n [] self.new (S.left tape.new)) }
-        ensures ends { IfErr result (λ answer. (file : CaptureFile) (state : State) → StandsFor self.old file (S.left tape.old) state
+        ensures ends { IfErr result (λ answer. (file : CaptureFile) (state : State)
+            → StandsFor self.old file (S.left tape.old) state
             → EndsRun IsStep self.old.reporter file 1 steps.now state (K.written out.old) (K.written out.new) answer) }
         ensures cause { IfErr result IsCause }
         ensures not_schedule { IfErr result (λ e. e ≢ TrialStatus.ScheduleFault) }

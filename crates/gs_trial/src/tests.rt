@@ -43,8 +43,8 @@ fn large_unit() -> &'static [u8] {
     b"GSTAPE01\0\0\x05\0T\0\0\0\0\0\0\xff\xff\xff\xffab"
 }
 
-// What a trial of these words answers over a capture file and a schedule, where the calls of these numbers fail. A write
-// takes up to so many bytes.
+// What a trial of these words answers over a capture file and a schedule, where the calls of these numbers fail. A
+// write takes up to so many bytes.
 fn trial_over(
     alloc: Global,
     line: &str,

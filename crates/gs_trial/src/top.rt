@@ -15,15 +15,25 @@ use gs_command::{TrialCommand, read_command};
 use gs_schedule::TrialStatus;
 use std::alloc::Global;
 
-/// Runs the command that the words are, over a capture file and a schedule, and writes what a run reports.
+/// Runs the command that the words are, those behind the program's name, over the bytes of a capture file and of a
+/// schedule, and writes on `out` what the run reports.
 ///
-/// `script bytes TAPE SCHEDULE` and `script brief TAPE SCHEDULE` run the schedule over the capture file: the file's head is
-/// read, then line after line of the schedule, then the rest of the file; then the sums and `ok` are written. The first fault
-/// in that order ends it, and what was written stays. The text of the lines is gathered into pieces of some 64 KiB, and what
-/// waits is written before a read of either source: so who types a schedule sees what each line did, and where a read fails
-/// nothing that was done before is lost. Where memory runs out what waits isn't written. `make N T` runs the schedule that is
-/// generated over the generated capture, and writes the sums and `ok`. `tape N T` writes the generated capture file. These
-/// two read no source.
+/// `script bytes TAPE SCHEDULE` and `script brief TAPE SCHEDULE` run the schedule over the capture file: the file's
+/// head is read, then line after line of the schedule, then the rest of the file; then the sums and `ok` are written.
+/// The first fault in that order ends it, and the text that was written by then stays. The text of the lines is
+/// gathered into pieces of some 64 KiB, and what waits is written before a read of either source: so who types a
+/// schedule sees what each line did, and where a read fails nothing that was done before is lost. Where memory runs
+/// out what waits isn't written. `make N T` runs the schedule that is generated over the generated capture, and writes
+/// the sums and `ok`. `tape N T` writes the generated capture file. These two read no source.
+///
+/// | Answer | When |
+/// |---|---|
+/// | `Ok` | the whole text was written |
+/// | `Usage` | a word doesn't fit, is missing or is one too many: the first one; nothing was touched |
+/// | `BadTape`, `TapeFull`, `UnitTooLarge`, `AudioLength` | the run ends at this fault of the capture file |
+/// | `BadSchedule` | the run ends at this line, which can't be run |
+/// | `TapeFault`, `ScheduleFault`, `WriteFault` | a call of that object failed |
+/// | `OutOfMemory` | an allocation was refused |
 pub fn trial_main<S: Source, T: Source, K: Sink>(
     alloc: Global,
     words: &[String],
@@ -31,8 +41,11 @@ pub fn trial_main<S: Source, T: Source, K: Sink>(
     schedule: &mut T,
     out: &mut K,
 ) -> TrialStatus
-    // What the words are, and what is written and answered.
-    ensures usage { (word : ℕ) → (result ≡ TrialStatus.Usage word) ↔ (first_misfit (map string_bytes words.now) ≡ Some word) }
+    // What the words are, and what is written and answered. A run's text shows neither the timestamp of a datagram nor
+    // the frame rate of the settings: that each session's host sent the datagrams of its history, each byte of them, is
+    // said by the run itself, and what holds of every run beside it.
+    ensures usage { (word : ℕ) → (result ≡ TrialStatus.Usage word)
+        ↔ (first_misfit (map string_bytes words.now) ≡ Some word) }
     ensures runs { (command : TrialCommand) → command_of (map string_bytes words.now) ≡ Some command → Answers command
         (S.left tape.old) (T.left schedule.old) (K.written out.old) (K.written out.new) result }
 
@@ -45,17 +58,22 @@ pub fn trial_main<S: Source, T: Source, K: Sink>(
     ensures usage_changes_nothing { IsSome (first_misfit (map string_bytes words.now))
         → (tape.new ≡ tape.old) × (schedule.new ≡ schedule.old) × (out.new ≡ out.old) }
 
-    // Where a read failed: which lines were run before, of which exactly the text was written. Where the head has a fault no
-    // line is read.
+    // Where a read failed: which lines were run before, of which exactly the text was written. Where the head has a
+    // fault no line is read.
     ensures stops { (detail : spec.Detail) → command_of (map string_bytes words.now) ≡ Some (TrialCommand.Script detail)
-        → StopsIfTold detail (S.left tape.old) (T.left schedule.old) (T.left schedule.new) (K.written out.old) (K.written out.new) result }
+        → StopsIfTold detail (S.left tape.old) (T.left schedule.old) (T.left schedule.new) (K.written out.old)
+        (K.written out.new) result }
     ensures headless { (HasHead (S.left tape.old) → ⊥) → (detail : spec.Detail)
-        → command_of (map string_bytes words.now) ≡ Some (TrialCommand.Script detail) → (schedule.new ≡ schedule.old) × (out.new ≡ out.old) }
+        → command_of (map string_bytes words.now) ≡ Some (TrialCommand.Script detail)
+        → (schedule.new ≡ schedule.old) × (out.new ≡ out.old) }
 
     // A run that ends well is answered so where no object failed and memory sufficed.
-    ensures complete { (detail : spec.Detail) → command_of (map string_bytes words.now) ≡ Some (TrialCommand.Script detail)
-        → (Rose (S.faults tape.old) (S.faults tape.new) → ⊥) → (Rose (T.faults schedule.old) (T.faults schedule.new) → ⊥)
-        → (Rose (K.faults out.old) (K.faults out.new) → ⊥) → CompletesIfTold (S.left tape.old) (T.left schedule.old) result }
+    ensures complete { (detail : spec.Detail)
+        → command_of (map string_bytes words.now) ≡ Some (TrialCommand.Script detail)
+        → (Rose (S.faults tape.old) (S.faults tape.new) → ⊥)
+        → (Rose (T.faults schedule.old) (T.faults schedule.new) → ⊥)
+        → (Rose (K.faults out.old) (K.faults out.new) → ⊥)
+        → CompletesIfTold (S.left tape.old) (T.left schedule.old) result }
     ensures complete_generated { (command : TrialCommand) → command_of (map string_bytes words.now) ≡ Some command
         → (Rose (K.faults out.old) (K.faults out.new) → ⊥) → CompletesGenerated command result }
 

@@ -9,7 +9,8 @@ use gs_loopback::Loopback;
 use gs_report::{Detail, Reporter};
 use std::alloc::Global;
 
-/// What a trial knows: what was captured, the moment in milliseconds, its sessions, and the text that isn't written yet.
+/// What a trial knows: what was captured, the moment in milliseconds, its sessions, and the text that isn't written
+/// yet.
 #[derive(Drop)]
 pub(crate) struct Trial {
     pub(crate) alloc: Global,

@@ -7,9 +7,15 @@
 #![tactic(auto)]
 
 ghost use Rattle.std.specs.declared.io.ErrorKind.TheVariants as kinds;
-ghost use Rattle.std.specs.Prelude.{◌≡◌, ◌≢◌, ◌⊎◌, ◌↔◌, ℕ, Some, IfErr, drop, map, string_bytes};
+ghost use Rattle.std.specs.Prelude.{◌≡◌, ◌≢◌, ◌⊎◌, ◌↔◌, ℕ, Err, Some, IfErr, IfOk, drop, map, string_bytes};
 ghost use Rattle.gs_command.specs.Words.{first_misfit};
-ghost use Rattle.gstrial.specs.Program.{tape_name as tape_named, schedule_name as schedule_named, word_at as word_of};
+ghost use Rattle.gstrial.specs.Program.{
+  schedule_name as schedule_named,
+  schedule_of,
+  tape_name as tape_named,
+  tape_of,
+  word_at as word_of,
+};
 
 use gs_net::{FileSource, OutSink};
 use gs_trial::{TrialCommand, TrialStatus, read_command, trial_main};
@@ -89,34 +95,32 @@ fn command_words(rt: &HostRuntime) -> Result<Vec<String>, TrialStatus>
     }
 }
 
-/// Runs the trial that the words name, and answers what `trial_main` answers of the capture file and
-/// the schedule that they name and of standard output. `Usage` comes exactly where a word doesn't fit
-/// or is missing, and before any file is opened. What a file holds and whether a call of the system
-/// fails no contract can say, so the other answers are those of `trial_main`'s contract over what
-/// these objects tell.
-fn run(rt: &HostRuntime, words: &[String]) -> TrialStatus
-    ensures usage { (word : ℕ) → (result ≡ TrialStatus.Usage word) ↔ (first_misfit (map string_bytes words.now) ≡ Some word) }
+/// The names of the capture file and of the schedule, empty where the command reads none. Words that
+/// don't fit are judged before any file is opened: the first of them is named.
+fn files_of(words: &[String]) -> Result<(&str, &str), u32>
+    ensures tape { IfOk result (λ names. names.0.now ≡ tape_of (map string_bytes words.now)) }
+    ensures schedule { IfOk result (λ names. names.1.now ≡ schedule_of (map string_bytes words.now)) }
+    ensures misfit { (word : ℕ) → (result ≡ Err word) ↔ (first_misfit (map string_bytes words.now) ≡ Some word) }
 {
-    match read_command(words) {
-        Err(word) => TrialStatus::Usage { word },
-        Ok(TrialCommand::Script(_)) => run_over(rt, words, tape_name(words), schedule_name(words)),
-        Ok(_) => run_over(rt, words, NO_FILE, NO_FILE),
-    }
+    Ok(match read_command(words)? {
+        TrialCommand::Script(_) => (tape_name(words), schedule_name(words)),
+        TrialCommand::Make(_) | TrialCommand::Tape(_) => (NO_FILE, NO_FILE),
+    })
 }
 
-/// Runs the trial over the files of these names.
-fn run_over(rt: &HostRuntime, words: &[String], tape: &str, schedule: &str) -> TrialStatus
-    ensures usage { (word : ℕ) → (result ≡ TrialStatus.Usage word) ↔ (first_misfit (map string_bytes words.now) ≡ Some word) }
-{
-    let mut tape = FileSource::open(rt, tape);
-    let mut schedule = FileSource::open(rt, schedule);
-    let mut out = OutSink::new(rt.stdout());
-    trial_main(rt.alloc(), words, &mut tape, &mut schedule, &mut out)
-}
-
+// The answer is that of `trial_main` for the two files and standard output: what a file holds, and whether a call of
+// the system fails, no contract can say.
 fn main(rt: HostRuntime) -> ExitCode {
     let status = match command_words(&rt) {
-        Ok(words) => run(&rt, &words),
+        Ok(words) => match files_of(&words) {
+            Ok((tape, schedule)) => {
+                let mut tape = FileSource::open(&rt, tape);
+                let mut schedule = FileSource::open(&rt, schedule);
+                let mut out = OutSink::new(rt.stdout());
+                trial_main(rt.alloc(), &words, &mut tape, &mut schedule, &mut out)
+            }
+            Err(word) => TrialStatus::Usage { word },
+        },
         Err(status) => status,
     };
     if status != TrialStatus::Ok {
