@@ -42,6 +42,7 @@ TAPES = {
     "chain": capture(chained(8)),
     "sound": capture([(b"", [], [b"\1", b"\0", b"\0", b"\0"])], audio=1),
     "sounds": capture([(b"", [], [bytes([unit]) for unit in b"abcdefghijkl"])], audio=1),
+    "choir": capture([(b"", [], [bytes([unit]) for unit in b"abcdefghijkl"])] * 3_642, audio=1),
     "long": capture([(b"idr", [], [])] * 300),
     "fives": capture([(bytes(1_500), [], [])] * 5),
     "many": capture([(b"ABC", [], [])] * 65_537),
@@ -207,6 +208,49 @@ RUNS += [
      f"schedule: line {len(IDRS) + 14}"),
 ]
 
+# 30,000 messages on a channel, of which the last 256 fill its window
+FULL_KEYS = [OPEN] + given("keydown 1 65 0", 29_744) + ["keydown 1 65 0"] * 256
+FULL_IDRS = [OPEN] + given("idr 1", 29_744) + ["idr 1"] * 256
+KEYS_TOLD = ["input 1 2 keydown 65 0"] * 29_744
+FIVE_SENT = [OPEN] + IDRS + ["cap", "send 1"] * 5
+FIVE_TOLD = ["idr 1"] * 29_999 + ALL_SENT[:5]
+# 3,642 ticks with 18 audio datagrams each
+SOUNDS_SENT = [OPEN] + ["cap", "send 1"] * 3_642
+
+RUNS += [
+    ("a datagram that is too old, of several", "brief", "many", SENT_MANY + ["videos 1 1 1"], MANY_TEXT, 9,
+     f"schedule: line {len(SENT_MANY) + 1}"),
+    ("a pump meets a datagram that is too old", "brief", "many", [OPEN] + ["cap", "send 1"] * 65_537 + ["pump 1 0"],
+     ALL_SENT, 9, f"schedule: line {2 * 65_537 + 2}"),
+    ("a pump leaves out all that is too old", "brief", "many", [OPEN] + ["cap", "send 1"] * 65_537 + ["pump 1 1"],
+     ALL_SENT + ["total 1 65537 0 0 0 0", "ok"], 0, ""),
+    ("an audio datagram that is too old", "brief", "choir", SOUNDS_SENT + ["audio 1 20"],
+     [f"sent 1 {frame} 2 {frame} 0" for frame in range(1, 3_643)], 9, f"schedule: line {len(SOUNDS_SENT) + 1}"),
+    ("the oldest down that may be named", "brief", "one", [OPEN, "keydown 1 65 0"] + ["up 1 3"] * 65_536 + ["down 1 2"],
+     ["input 1 2 keydown 65 0", "total 1 0 0 0 1 0", "ok"], 0, ""),
+    ("a down that is too old", "brief", "one", [OPEN, "keydown 1 65 0"] + ["up 1 3"] * 65_536 + ["down 1 1"],
+     ["input 1 2 keydown 65 0"], 9, "schedule: line 65539"),
+    ("several datagrams, of which the last wasn't sent", "brief", "one", [OPEN, "cap", "send 1", "videos 1 1 2"],
+     ["sent 1 1 2 1 0", "hand 1 1 2 3"], 9, "schedule: line 4"),
+    ("a reset of a lost client", "brief", "one", LOST + ["reset 1"], ["lost 1"], 9, f"schedule: line {len(LOST) + 1}"),
+    ("a full window where 30,000 were given", "brief", "one", FULL_KEYS + ["keydown 1 65 0"],
+     KEYS_TOLD + ["full 1 2", "total 1 0 0 0 29744 0", "ok"], 0, ""),
+    ("the same for requests", "brief", "one", FULL_IDRS + ["idr 1"],
+     ["idr 1"] * 29_744 + ["full 1 1", "total 1 0 0 0 0 0", "ok"], 0, ""),
+    ("the 30,001st request by a reset, while the window is full", "brief", "one", FULL_IDRS + ["reset 1"],
+     ["idr 1"] * 29_744, 9, f"schedule: line {len(FULL_IDRS) + 1}"),
+    ("the 30,001st request", "brief", "one", [OPEN] + given("idr 1", 30_000) + ["idr 1"], ["idr 1"] * 30_000, 9,
+     f"schedule: line {len(given('', 30_000)) + 2}"),
+    ("the 30,001st request by a reset", "brief", "one", [OPEN] + given("idr 1", 30_000) + ["reset 1"], ["idr 1"] * 30_000,
+     9, f"schedule: line {len(given('', 30_000)) + 2}"),
+    ("the 30,001st message of the last channel", "brief", "one", [OPEN] + given("press 1 1", 30_000) + ["press 1 1"],
+     ["input 1 3 press 1"] * 30_000, 9, f"schedule: line {len(given('', 30_000)) + 2}"),
+    ("the 30,001st ask, by several datagrams", "brief", "many", FIVE_SENT + ["videos 1 1 1", "videos 1 3 3", "videos 1 5 5"],
+     FIVE_TOLD + ["hand 1 1 2 3", "ask 1 2 2", "hand 1 3 2 3"], 9, f"schedule: line {len(FIVE_SENT) + 3}"),
+    ("the 30,001st ask, by a pump", "brief", "many", FIVE_SENT + ["pump 1 2"],
+     FIVE_TOLD + ["hand 1 1 2 3", "ask 1 2 2", "hand 1 3 2 3"], 9, f"schedule: line {len(FIVE_SENT) + 1}"),
+]
+
 # lines that can't be run behind a session, a tick, and a frame that was sent
 REFUSED = [
     "session 1023 0 0", "session 1441 0 0", "session 1024 101 0", "session 1024 0 256", "session 1024 0 0 0",
@@ -216,10 +260,16 @@ REFUSED = [
     "idr 2", "time 60001", "time", "pump 2 0", "pump 1", "close 2", "close 1 1", "reset 2", "video 1 01", "video 1  1",
     " video 1 1", "video 1 1 ", "VIDEO 1 1", "frames", "#" + 64 * "x", "video 1 4294967296",
 ]
+REFUSED += [
+    "session 1024 0 3", "idr", "idr 1 1", "reset", "reset 1 1", "up 1", "up 1 1 1", "down 1", "down 1 0", "audio 1",
+    "audio 1 0", "audio 1 1 1", "videos 1 1", "videos 1 0 1", "move 1 1", "move 1 32768 0", "at 1 1 2 3", "at 1 1 2 3 -32769",
+    "press 1", "release 1 0", "release 1 6", "scroll 1", "scroll 1 32768", "keyup 1 65", "keyup 1 65 256", "pump", "close",
+    "time 1 1",
+]
 REFUSED += ["audio 2 1", "videos 2 1 1", "up 2 1", "send 9", "keyup 0 65 0", *(event.format(2) for event in EVENTS)]
 REFUSED_ALONE = ["send 1", "video 1 1", "videos 1 1 1", "audio 1 1", "up 1 1", "down 1 1", "idr 1", "pump 1 0", "close 1",
                  "reset 1", *(event.format(1) for event in EVENTS)]
-REFUSED_AFTER_CLOSE = ["keydown 1 65 0", "idr 1", "close 1", "reset 1"]
+REFUSED_AFTER_CLOSE = ["idr 1", "close 1", "reset 1", *(event.format(1) for event in EVENTS)]
 
 
 def cases():
