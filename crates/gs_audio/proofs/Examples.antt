@@ -8,7 +8,7 @@ use Rattle.gs_poly.specs.Polynomial.{ratio_product}
 use Rattle.gs_rtp.specs.Stream.{StreamSettings, AreSettingsWithinLimits}
 use Rattle.gs_rtp.specs.AudioDatagrams.{audio_datagrams}
 use Rattle.gs_audio.specs.Received.{received_audio}
-use Rattle.gs_audio.specs.Played.{PlayedUnit, counting, newly_played, played}
+use Rattle.gs_audio.specs.Played.{PlayedUnit, counting_shards, newly_played, played}
 use Rattle.gs_audio.specs.PlayedLaws.{AreSessionUnits, AreOfUnits, IsUnitOf, PlayedUnitsWereSent}
 
 -- units of one byte
@@ -44,35 +44,35 @@ first_parity = refl
 
 -- both parity shards and two units give all four
 restored : played tiny (sent 3 ∷ sent 2 ∷ sent 6 ∷ sent 5 ∷ []) ≡ unit 0 1 ∷ unit 1 0 ∷ unit 2 0 ∷ unit 3 0 ∷ []
-unfolding tiny played newly_played received_audio counting product remainder polynomial_product inverse inverse_below field_sum ratio_product
+unfolding tiny played newly_played received_audio counting_shards product remainder polynomial_product inverse inverse_below field_sum ratio_product
 restored = refl
 
 -- a fourth shard plays, and neither a repeat before it nor a fifth behind it does
 repeated :
     played tiny (sent 5 ∷ sent 4 ∷ sent 3 ∷ sent 2 ∷ sent 2 ∷ sent 1 ∷ [])
     ≡ unit 0 1 ∷ unit 1 0 ∷ unit 2 0 ∷ unit 3 0 ∷ []
-unfolding tiny played newly_played received_audio counting
+unfolding tiny played newly_played received_audio counting_shards
 repeated = refl
 
 not_yet : newly_played tiny (sent 2) (sent 3 ∷ sent 2 ∷ sent 1 ∷ []) ≡ []
-unfolding tiny played newly_played received_audio counting
+unfolding tiny played newly_played received_audio counting_shards
 not_yet = refl
 
 -- a block that is left short plays the units that are held, in their order, whether in its time or of a parity shard
 left_short : newly_played tiny (sent 11) (sent 2 ∷ sent 6 ∷ sent 4 ∷ []) ≡ unit 1 0 ∷ unit 3 0 ∷ []
-unfolding tiny played newly_played received_audio counting
+unfolding tiny played newly_played received_audio counting_shards
 left_short = refl
 
 -- one of which parity alone is held plays nothing, and nothing of it plays later
 left_without_units : played tiny (sent 4 ∷ sent 2 ∷ sent 1 ∷ sent 7 ∷ sent 6 ∷ sent 5 ∷ []) ≡ []
-unfolding tiny played newly_played received_audio counting
+unfolding tiny played newly_played received_audio counting_shards
 left_without_units = refl
 
 -- nor does a block that was whole, when it is left, nor a last one that stays short
 left_whole :
     played tiny (sent 13 ∷ sent 4 ∷ sent 3 ∷ sent 2 ∷ sent 1 ∷ [])
     ≡ unit 0 1 ∷ unit 1 0 ∷ unit 2 0 ∷ unit 3 0 ∷ []
-unfolding tiny played newly_played received_audio counting
+unfolding tiny played newly_played received_audio counting_shards
 left_whole = refl
 
 -- a datagram of another session changes nothing
@@ -80,7 +80,7 @@ abbrev other : StreamSettings
 other = record { packet = 1024; percentage = 0; minimum = 0; fps = 60; duration = 5; audio = 1; ssrc = 2 }
 
 other_session : played other (sent 4 ∷ sent 3 ∷ sent 2 ∷ sent 1 ∷ []) ≡ []
-unfolding tiny played newly_played received_audio counting
+unfolding tiny played newly_played received_audio counting_shards
 other_session = refl
 
 -- ---- the law's premises hold of them

@@ -13,10 +13,11 @@ use Rattle.gs_rs.specs.Shape.{audio_code}
 use Rattle.gs_rs.specs.Shards.{HeldShard, block_shard}
 use Rattle.gs_rtp.specs.Stream.{StreamSettings}
 use Rattle.gs_audio.specs.Received.{AudioShard, shards_of_block, taken_audio}
-use Rattle.gs_audio.specs.Played.{PlayedUnit, greater_block, greatest_block, is_held, is_counted, counting, unit_number, whole_units, unit_at, held_units}
+use Rattle.gs_audio.specs.Played.{PlayedUnit, greater_block, greatest_block, is_audio_held, is_shard_counted, counting_shards, unit_number, whole_units}
+use Rattle.gs_audio.specs.Played.{audio_unit_at, held_units}
 use Rattle.gs_audio.specs.Played.{played_of_left, played_of_joined, played_behind}
 use Rattle.gs_audio.specs.PlayedLaws.{HaveRisingNumbers, PlayedUnitsRise}
-use Rattle.gs_audio.proofs.Counting.{greatest-within, of_same, counting-more, counting-same}
+use Rattle.gs_audio.proofs.Counting.{greatest-within, of_same, counting_shards-more, counting_shards-same}
 use Rattle.gs_audio.proofs.PlayedSent.{by_taken, played-by_taken}
 
 -- ---- lists of units
@@ -93,7 +94,7 @@ whole-rises size block held =
     (numbered-rise (λ i. Some (unit i)) (block * 4) 0 4 (block * 4 + 4)
     (λ i p e. ap (λ (q : PlayedUnit). q.number) (sym (same_Some (unit i) p e))) refl))
 
-held-number : (block i : ℕ) (o : Option HeldShard) (p : PlayedUnit) → unit_at block i o ≡ Some p → p.number ≡ block * 4 + i
+held-number : (block i : ℕ) (o : Option HeldShard) (p : PlayedUnit) → audio_unit_at block i o ≡ Some p → p.number ≡ block * 4 + i
 held-number block i None p e = absurd (none-some p e)
 held-number block i (Some s) p e =
     let this : PlayedUnit = record { number = unit_number block i; bytes = s.bytes } in
@@ -103,7 +104,7 @@ held-rises : (block : ℕ) (held : List HeldShard) → RisesWithin (block * 4) (
 held-rises block held =
     let start : block * 4 + 0 ≡ block * 4 = omega arith in
     subst (λ (n : ℕ). RisesWithin n (block * 4 + 4) (held_units block held)) start
-    (numbered-rise (λ i. unit_at block i (find (λ s. s.index == i) held)) (block * 4) 0 4 (block * 4 + 4)
+    (numbered-rise (λ i. audio_unit_at block i (find (λ s. s.index == i) held)) (block * 4) 0 4 (block * 4 + 4)
     (λ i p e. held-number block i (find (λ s. s.index == i) held) p e) refl)
 
 -- ---- one more shard
@@ -112,7 +113,7 @@ held-rises block held =
 pub record IsPlayed (s : StreamSettings) (rs : List AudioShard) (greatest : ℕ) : Type 0 where
   pub rises : HaveRisingNumbers (by_taken s rs)
   pub below : AreBelow (greatest * 4 + 4) (by_taken s rs)
-  pub short : length (shards_of_block greatest (counting rs)) < 4 → AreBelow (greatest * 4) (by_taken s rs)
+  pub short : length (shards_of_block greatest (counting_shards rs)) < 4 → AreBelow (greatest * 4) (by_taken s rs)
 
 lower-below : (m n : ℕ) (units : List PlayedUnit) → m ≤ n → AreBelow m units → AreBelow n units
 lower-below m n units less below = All-weaker (λ p. p.number < m) (λ p. p.number < n) (λ p low. omega (arith, less, low)) units below
@@ -130,11 +131,11 @@ fresh s rs greatest rises below = record {
 above-played : (s : StreamSettings) (r : AudioShard) (rs : List AudioShard) (g : ℕ) → greatest_block rs ≡ Some g → g < r.block → IsPlayed s rs g
     → IsPlayed s (r ∷ rs) r.block
 above-played s r rs g e less is =
-    let left = shards_of_block g (counting rs) in
+    let left = shards_of_block g (counting_shards rs) in
     let units = played_of_left g left in
-    let joined = played_of_joined s r (Some g) (shards_of_block r.block (counting rs)) in
+    let joined = played_of_joined s r (Some g) (shards_of_block r.block (counting_shards rs)) in
     let more : by_taken s (r ∷ rs) ≡ by_taken s rs ++ units =
-    ap (λ (o : Option ℕ). by_taken s rs ++ played_behind s r o (counting rs)) e
+    ap (λ (o : Option ℕ). by_taken s rs ++ played_behind s r o (counting_shards rs)) e
     ∙ ap (λ (l : List PlayedUnit). by_taken s rs ++ l) (cond-true (nat_lt g r.block) units joined (lt-ltb g r.block less)) in
     let Goal : List PlayedUnit → Type 0 = λ l. HaveRisingNumbers l × AreBelow (r.block * 4) l in
     let done : Goal (by_taken s rs ++ units) = elim (cases_lt (length left) 4) [
@@ -160,7 +161,8 @@ above-played s r rs g e less is =
 
 -- one that plays nothing
 still : (s : StreamSettings) (r : AudioShard) (rs : List AudioShard) (g : ℕ) → by_taken s (r ∷ rs) ≡ by_taken s rs
-    → (length (shards_of_block g (counting (r ∷ rs))) < 4 → length (shards_of_block g (counting rs)) < 4) → IsPlayed s rs g → IsPlayed s (r ∷ rs) g
+    → (length (shards_of_block g (counting_shards (r ∷ rs))) < 4 → length (shards_of_block g (counting_shards rs)) < 4) → IsPlayed s rs g
+    → IsPlayed s (r ∷ rs) g
 still s r rs g same short is = record {
   rises = subst HaveRisingNumbers (sym same) is.rises;
   below = subst (AreBelow (g * 4 + 4)) (sym same) is.below;
@@ -168,38 +170,40 @@ still s r rs g same short is = record {
 }
 
 -- one that counts is of the greatest block
-counts-there : (r : AudioShard) (g : ℕ) (held : List HeldShard) → r.block ≤ g → is_counted r (Some g) held ≡ true → (r.block ≡ g) × (length held < 4)
+counts-there : (r : AudioShard) (g : ℕ) (held : List HeldShard) → r.block ≤ g → is_shard_counted r (Some g) held ≡ true → (r.block ≡ g) × (length held < 4)
 counts-there r g held within counts =
-    let parts = and_parts (not (nat_lt r.block g) && not (is_held r.shard.index held)) (nat_lt (length held) 4) counts in
-    let least = ltb-false r.block g (not-true (nat_lt r.block g) (and_parts (not (nat_lt r.block g)) (not (is_held r.shard.index held)) parts.0).0) in
+    let parts = and_parts (not (nat_lt r.block g) && not (is_audio_held r.shard.index held)) (nat_lt (length held) 4) counts in
+    let least = ltb-false r.block g (not-true (nat_lt r.block g) (and_parts (not (nat_lt r.block g)) (not (is_audio_held r.shard.index held)) parts.0).0) in
     (omega (arith, least, within), ltb-true (length held) 4 parts.1)
 
 -- a block that isn't greater
 within-played : (s : StreamSettings) (r : AudioShard) (rs : List AudioShard) (g : ℕ) → greatest_block rs ≡ Some g → r.block ≤ g → IsPlayed s rs g
     → IsPlayed s (r ∷ rs) g
 within-played s r rs g e within is =
-    let held = shards_of_block r.block (counting rs) in
+    let held = shards_of_block r.block (counting_shards rs) in
     let all = r.shard ∷ held in
-    let counts = is_counted r (Some g) held in
+    let counts = is_shard_counted r (Some g) held in
     let four = length all == 4 in
     let whole = whole_units s.audio r.block all in
-    let Counts : Option ℕ → Bool → Type 0 = λ o b. is_counted r o held ≡ b in
+    let Counts : Option ℕ → Bool → Type 0 = λ o b. is_shard_counted r o held ≡ b in
     let more : by_taken s (r ∷ rs) ≡ by_taken s rs ++ played_of_joined s r (Some g) held =
-    ap (λ (o : Option ℕ). by_taken s rs ++ played_behind s r o (counting rs)) e
+    ap (λ (o : Option ℕ). by_taken s rs ++ played_behind s r o (counting_shards rs)) e
     ∙ ap (λ (l : List PlayedUnit). by_taken s rs ++ l)
-    (cond-false (nat_lt g r.block) (played_of_left g (shards_of_block g (counting rs))) (played_of_joined s r (Some g) held) (le-ltb g r.block within)) in
+    (cond-false (nat_lt g r.block) (played_of_left g (shards_of_block g (counting_shards rs))) (played_of_joined s r (Some g) held)
+    (le-ltb g r.block within)) in
     let none : (counts && four) ≡ false → by_taken s (r ∷ rs) ≡ by_taken s rs =
     λ off. more ∙ ap (λ (l : List PlayedUnit). by_taken s rs ++ l) (cond-false (counts && four) whole [] off) ∙ append-nil (by_taken s rs) in
     elim (cases_Bool counts) [
       | inr off ↦
-          let same : counting (r ∷ rs) ≡ counting rs = counting-same r rs (subst (λ (o : Option ℕ). Counts o false) (sym e) off) in
+          let same : counting_shards (r ∷ rs) ≡ counting_shards rs = counting_shards-same r rs (subst (λ (o : Option ℕ). Counts o false) (sym e) off) in
           still s r rs g (none (and_left counts four off))
-          (subst (λ (l : List AudioShard). length (shards_of_block g l) < 4 → length (shards_of_block g (counting rs)) < 4) (sym same) (λ few. few)) is
+          (subst (λ (l : List AudioShard). length (shards_of_block g l) < 4 → length (shards_of_block g (counting_shards rs)) < 4) (sym same) (λ few. few)) is
       | inl on ↦
           let there = counts-there r g held within on in
-          let now : counting (r ∷ rs) ≡ r ∷ counting rs = counting-more r rs (subst (λ (o : Option ℕ). Counts o true) (sym e) on) in
-          let alone : shards_of_block r.block (counting (r ∷ rs)) ≡ all = ap (shards_of_block r.block) now ∙ of_same r (counting rs) in
-          let few : length (shards_of_block g (counting rs)) < 4 = subst (λ (b : ℕ). length (shards_of_block b (counting rs)) < 4) there.0 there.1 in
+          let now : counting_shards (r ∷ rs) ≡ r ∷ counting_shards rs = counting_shards-more r rs (subst (λ (o : Option ℕ). Counts o true) (sym e) on) in
+          let alone : shards_of_block r.block (counting_shards (r ∷ rs)) ≡ all = ap (shards_of_block r.block) now ∙ of_same r (counting_shards rs) in
+          let few : length (shards_of_block g (counting_shards rs)) < 4 = subst
+          (λ (b : ℕ). length (shards_of_block b (counting_shards rs)) < 4) there.0 there.1 in
           elim (cases_Bool four) [
             | inr part ↦ still s r rs g (none (and_right counts four part)) (λ h. few) is
             | inl full ↦
@@ -218,8 +222,8 @@ within-played s r rs g e within is =
                       (All-append (λ p. p.number < g * 4 + 4) (by_taken s rs) whole
                       (lower-below (g * 4) (g * 4 + 4) (by_taken s rs) (omega arith) before) below);
                   short = λ h.
-                      let count : length (shards_of_block g (counting (r ∷ rs))) ≡ length all =
-                      ap (λ (b : ℕ). length (shards_of_block b (counting (r ∷ rs)))) (sym block) ∙ ap (λ (l : List HeldShard). length l) alone in
+                      let count : length (shards_of_block g (counting_shards (r ∷ rs))) ≡ length all =
+                      ap (λ (b : ℕ). length (shards_of_block b (counting_shards (r ∷ rs)))) (sym block) ∙ ap (λ (l : List HeldShard). length l) alone in
                       absurd (omega (arith, h, count, eqb-true (length all) 4 full));
                 }
           ]

@@ -1,9 +1,9 @@
 -- The units that are played of a sender's datagrams are its units.
-use Rattle.std.proofs.Common.{◌≡◌, ◌≢◌, ◌<◌, ◌≤◌, ◌+◌, ◌-◌, ◌*◌, ℕ, zero, suc, Bool, true, ◌&&◌, not, List, [], ◌∷◌, ◌++◌, length, get_or, take, drop, map}
+use Rattle.std.proofs.Common.{◌≡◌, ◌≢◌, ◌<◌, ◌≤◌, ◌+◌, ◌-◌, ◌*◌, ℕ, zero, suc, true, ◌&&◌, not, List, [], ◌∷◌, ◌++◌, length, get_or, take, drop, map}
 use Rattle.std.proofs.Common.{Option, Some, None, inl, inr, refl, sym, ap, subst, ◌∙◌, arith}
 use Rattle.std.specs.Prelude.{◌==◌, nat_lt}
 use Rattle.std.specs.List.{All, AllPairs, find, slice_get, range_with_len, cons_option}
-use Rattle.std.proofs.lemmas.Bool.{cases_Bool, cases_lt, cond-true, cond-false, cond_both, eqb-true, ltb-true, and_parts, not-true}
+use Rattle.std.proofs.lemmas.Bool.{cases_Bool, cases_lt, cond_both, eqb-true, ltb-true, and_parts, not-true}
 use Rattle.std.proofs.lemmas.Bool.Decides.{Decides-eqb}
 use Rattle.std.proofs.lemmas.List.{append-nil, length-drop, length-take-le, length-map, get_or-append_right}
 use Rattle.std.proofs.lemmas.List.Elements.{All-nil, All-cons, All-head, All-tail, All-append, All-map, All-take, All-drop, All-contains}
@@ -15,26 +15,28 @@ use Rattle.gs_gf256.specs.Field.{IsByte}
 use Rattle.gs_rs.specs.Shape.{audio_code}
 use Rattle.gs_rs.specs.Shards.{HeldShard, parity_shard, with_parity_shards, block_shard}
 use Rattle.gs_rs.specs.ShardLaws.{AreDataShards, AreShardsOf}
-use Rattle.gs_rs.proofs.HeldShards.{held_shards_hold, slice_get-append_left, parity_shards, length-with_parity, numbers_apart}
+use Rattle.gs_rs.proofs.HeldShards.{held_shards_hold, slice_get-append_left, parity_shards, length-with_parity, numbers_apart, find-some}
 use Rattle.gs_rs.proofs.Rows.{IsCode-audio}
 use Rattle.gs_rtp.specs.Stream.{StreamSettings}
 use Rattle.gs_rtp.specs.Audio.{ReadsBackAudio}
 use Rattle.gs_rtp.specs.AudioDatagrams.{units_of_block}
 use Rattle.gs_audio.specs.Received.{AudioShard, shards_of_block, received_audio, taken_audio}
-use Rattle.gs_audio.specs.Played.{PlayedUnit, greatest_block, is_left, is_held, is_counted, counting, unit_number, whole_units, unit_at, held_units}
+use Rattle.gs_audio.specs.Played.{PlayedUnit, greatest_block, is_block_left, is_audio_held, is_shard_counted, counting_shards, unit_number, whole_units}
+use Rattle.gs_audio.specs.Played.{audio_unit_at, held_units}
 use Rattle.gs_audio.specs.Played.{played_of_left, played_of_joined, played_behind, played}
-use Rattle.gs_audio.specs.Places.{AreShards}
+use Rattle.gs_audio.specs.Places.{AreAudioShards}
 use Rattle.gs_audio.specs.PlayedLaws.{AreSessionUnits, IsUnitOf, PlayedUnitsWereSent}
+use Rattle.gs_bytes.proofs.Lists.{All-filter_map}
 use Rattle.gs_audio.proofs.Counting.{of_other, of_same}
 use Rattle.gs_audio.proofs.Rooms.{join-are}
 use Rattle.gs_audio.proofs.Taken.{newly-by}
-use Rattle.gs_audio.proofs.PlayedShards.{IsShardOf, IsTakenOf, All-filter_map, within, taken-of}
+use Rattle.gs_audio.proofs.PlayedShards.{IsShardOf, IsTakenOf, within, taken-of}
 
 -- ---- what is played, by what was taken
 
 abbrev pub by_taken : StreamSettings → List AudioShard → List PlayedUnit
 by_taken s [] = []
-by_taken s (r ∷ rs) = by_taken s rs ++ played_behind s r (greatest_block rs) (counting rs)
+by_taken s (r ∷ rs) = by_taken s rs ++ played_behind s r (greatest_block rs) (counting_shards rs)
 
 pub played-by_taken : (s : StreamSettings) (came : List (List ℕ)) → played s came ≡ by_taken s (taken_audio s came)
 unfolding played
@@ -46,13 +48,13 @@ played-by_taken s (bytes ∷ came) = onto (received_audio s bytes) refl (played-
       ap (λ (l : List PlayedUnit). played s came ++ l) (newly-by s bytes came None e) ∙ append-nil (played s came) ∙ before
   onto (Some r) e before =
       ap (λ (l : List PlayedUnit). played s came ++ l) (newly-by s bytes came (Some r) e)
-      ∙ ap (λ (l : List PlayedUnit). l ++ played_behind s r (greatest_block (taken_audio s came)) (counting (taken_audio s came))) before
+      ∙ ap (λ (l : List PlayedUnit). l ++ played_behind s r (greatest_block (taken_audio s came)) (counting_shards (taken_audio s came))) before
 
 -- ---- what counts of a block
 
 -- shards of one block of these units
 pub record AreSent (size : ℕ) (units : List (List ℕ)) (block : ℕ) (held : List HeldShard) : Type 0 where
-  pub are : AreShards held
+  pub are : AreAudioShards held
   pub sent : All (IsShardOf size units block) held
 
 none-held : (size : ℕ) (units : List (List ℕ)) (block : ℕ) → AreSent size units block []
@@ -63,33 +65,34 @@ none-held size units block = record {
 
 -- one more that counts
 one-counts : (size : ℕ) (units : List (List ℕ)) (r : AudioShard) (g : Option ℕ) (held : List HeldShard) → IsTakenOf size units r
-    → is_counted r g held ≡ true → AreSent size units r.block held → AreSent size units r.block (r.shard ∷ held)
+    → is_shard_counted r g held ≡ true → AreSent size units r.block held → AreSent size units r.block (r.shard ∷ held)
 one-counts size units r g held of counts sent =
-    let parts = and_parts (not (is_left r.block g) && not (is_held r.shard.index held)) (nat_lt (length held) 4) counts in
-    let missing = not-true (is_held r.shard.index held) (and_parts (not (is_left r.block g)) (not (is_held r.shard.index held)) parts.0).1 in
+    let parts = and_parts (not (is_block_left r.block g) && not (is_audio_held r.shard.index held)) (nat_lt (length held) 4) counts in
+    let missing = not-true (is_audio_held r.shard.index held) (and_parts (not (is_block_left r.block g)) (not (is_audio_held r.shard.index held)) parts.0).1 in
     record {
       are = join-are held r.shard sent.are (ltb-true (length held) 4 parts.1) (within size units r.block r.shard of) missing;
       sent = All-cons (IsShardOf size units r.block) r.shard held of sent.sent;
     }
 
 -- those that count of a block
-pub counting-sent : (size : ℕ) (units : List (List ℕ)) (rs : List AudioShard) → All (IsTakenOf size units) rs
-    → (block : ℕ) → AreSent size units block (shards_of_block block (counting rs))
-unfolding counting
-counting-sent size units [] of block = none-held size units block
-counting-sent size units (r ∷ rs) of block =
-    let before = counting-sent size units rs (All-tail (IsTakenOf size units) r rs of) in
-    let counts = is_counted r (greatest_block rs) (shards_of_block r.block (counting rs)) in
+pub counting_shards-sent : (size : ℕ) (units : List (List ℕ)) (rs : List AudioShard) → All (IsTakenOf size units) rs
+    → (block : ℕ) → AreSent size units block (shards_of_block block (counting_shards rs))
+unfolding counting_shards
+counting_shards-sent size units [] of block = none-held size units block
+counting_shards-sent size units (r ∷ rs) of block =
+    let before = counting_shards-sent size units rs (All-tail (IsTakenOf size units) r rs of) in
+    let counts = is_shard_counted r (greatest_block rs) (shards_of_block r.block (counting_shards rs)) in
     let Sent : List AudioShard → Type 0 = λ l. AreSent size units block (shards_of_block block l) in
-    cond_both counts (r ∷ counting rs) (counting rs) Sent
+    cond_both counts (r ∷ counting_shards rs) (counting_shards rs) Sent
     (λ on. elim (cases_Bool (r.block == block)) [
       | inl own ↦
           let same : r.block ≡ block = eqb-true r.block block own in
-          let Own : ℕ → Type 0 = λ b. AreSent size units b (shards_of_block b (r ∷ counting rs)) in
+          let Own : ℕ → Type 0 = λ b. AreSent size units b (shards_of_block b (r ∷ counting_shards rs)) in
           subst Own same
-          (subst (AreSent size units r.block) (sym (of_same r (counting rs)))
-          (one-counts size units r (greatest_block rs) (shards_of_block r.block (counting rs)) (All-head (IsTakenOf size units) r rs of) on (before r.block)))
-      | inr other ↦ subst (AreSent size units block) (sym (of_other block r (counting rs) other)) (before block)
+          (subst (AreSent size units r.block) (sym (of_same r (counting_shards rs)))
+          (one-counts size units r (greatest_block rs) (shards_of_block r.block (counting_shards rs)) (All-head (IsTakenOf size units) r rs of) on
+          (before r.block)))
+      | inr other ↦ subst (AreSent size units block) (sym (of_other block r (counting_shards rs) other)) (before block)
     ])
     (λ off. before block)
 
@@ -190,19 +193,9 @@ whole-sent settings units block held are sent four =
 
 -- ---- a block that is left
 
--- what is found passes the test, and has what all have
-find-some : {X : Type 0} (test : X → Bool) (P : X → Type 0) (xs : List X) (x : X) → All P xs → find test xs ≡ Some x → (test x ≡ true) × P x
-find-some test P [] x all e = absurd (none-some x e)
-find-some test P (y ∷ ys) x all e = elim (cases_Bool (test y)) [
-  | inl passes ↦
-      let same : y ≡ x = same_Some y x (sym (cond-true (test y) (Some y) (find test ys) passes) ∙ e) in
-      subst (λ z. (test z ≡ true) × P z) same (passes, All-head P y ys all)
-  | inr fails ↦ find-some test P ys x (All-tail P y ys all) (sym (cond-false (test y) (Some y) (find test ys) fails) ∙ e)
-]
-
 -- each unit that is held
 held-unit : (size : ℕ) (units : List (List ℕ)) (block : ℕ) (held : List HeldShard) → All (IsShardOf size units block) held → (i : ℕ) → i < 4
-    → (o : Option HeldShard) → find (λ s. s.index == i) held ≡ o → (p : PlayedUnit) → unit_at block i o ≡ Some p → IsUnitOf units p
+    → (o : Option HeldShard) → find (λ s. s.index == i) held ≡ o → (p : PlayedUnit) → audio_unit_at block i o ≡ Some p → IsUnitOf units p
 held-unit size units block held sent i h None e p is = absurd (none-some p is)
 held-unit size units block held sent i h (Some s) e p is =
     let found = find-some (λ (t : HeldShard). t.index == i) (IsShardOf size units block) held s sent e in
@@ -216,7 +209,7 @@ held-unit size units block held sent i h (Some s) e p is =
 held-sent : (size : ℕ) (units : List (List ℕ)) (block : ℕ) (held : List HeldShard) → All (IsShardOf size units block) held
     → All (IsUnitOf units) (held_units block held)
 held-sent size units block held sent =
-    All-filter_map (λ i. unit_at block i (find (λ s. s.index == i) held)) (IsUnitOf units) (range_with_len 0 4) (λ k d h p.
+    All-filter_map (λ i. audio_unit_at block i (find (λ s. s.index == i) held)) (IsUnitOf units) (range_with_len 0 4) (λ k d h p.
     let i = get_or (range_with_len 0 4) k d in
     let low : k < 4 = omega (arith, h, length-range_with_len 0 4) in
     let is = get_or-range_with_len 0 4 k d low in
@@ -225,14 +218,14 @@ held-sent size units block held sent =
 -- ---- the law
 
 behind-sent : (s : StreamSettings) (units : List (List ℕ)) (r : AudioShard) (rs : List AudioShard) (g : Option ℕ) → AreSessionUnits s units
-    → All (IsTakenOf s.audio units) rs → IsTakenOf s.audio units r → All (IsUnitOf units) (played_behind s r g (counting rs))
+    → All (IsTakenOf s.audio units) rs → IsTakenOf s.audio units r → All (IsUnitOf units) (played_behind s r g (counting_shards rs))
 behind-sent s units r rs None are before of = All-nil (IsUnitOf units)
 behind-sent s units r rs (Some g) are before of =
-    let sent = counting-sent s.audio units rs before in
-    let left = shards_of_block g (counting rs) in
-    let held = shards_of_block r.block (counting rs) in
+    let sent = counting_shards-sent s.audio units rs before in
+    let left = shards_of_block g (counting_shards rs) in
+    let held = shards_of_block r.block (counting_shards rs) in
     let all = r.shard ∷ held in
-    let counts = is_counted r (Some g) held in
+    let counts = is_shard_counted r (Some g) held in
     let none = All-nil (IsUnitOf units) in
     cond_both (nat_lt g r.block) (played_of_left g left) (played_of_joined s r (Some g) held) (All (IsUnitOf units))
     (λ above. cond_both (nat_lt (length left) 4) (held_units g left) [] (All (IsUnitOf units))
@@ -248,7 +241,7 @@ by_taken-sent : (s : StreamSettings) (units : List (List ℕ)) (rs : List AudioS
 by_taken-sent s units [] are of = All-nil (IsUnitOf units)
 by_taken-sent s units (r ∷ rs) are of =
     let before = All-tail (IsTakenOf s.audio units) r rs of in
-    All-append (IsUnitOf units) (by_taken s rs) (played_behind s r (greatest_block rs) (counting rs)) (by_taken-sent s units rs are before)
+    All-append (IsUnitOf units) (by_taken s rs) (played_behind s r (greatest_block rs) (counting_shards rs)) (by_taken-sent s units rs are before)
     (behind-sent s units r rs (greatest_block rs) are before (All-head (IsTakenOf s.audio units) r rs of))
 
 -- by the law of gs_rtp that what is written of a head is read as that head

@@ -2,10 +2,10 @@
 use Rattle.std.proofs.Common.{◌≡◌, ◌≢◌, ◌<◌, ◌≤◌, ◌+◌, ◌-◌, ◌*◌, ◌/◌, ◌%◌, ℕ, zero, suc, true, false, cond, List, [], ◌∷◌, ◌++◌, length, drop, Option, Some}
 use Rattle.std.proofs.Common.{None, ◌⊎◌, inl, inr, refl, sym, ap, subst, ◌∙◌, arith}
 use Rattle.std.specs.Prelude.{◌==◌}
-use Rattle.std.specs.List.{All, Contains, slice_get, flat_map, filter_map, cons_option, range_with_len}
+use Rattle.std.specs.List.{All, Contains, slice_get, flat_map, range_with_len}
 use Rattle.std.proofs.lemmas.Bool.{cases_eq, cond-true, cond-false, eq-eqb, ne_eqb}
 use Rattle.std.proofs.lemmas.List.{length-append, drop_at}
-use Rattle.std.proofs.lemmas.List.Elements.{All-nil, All-cons, All-head, All-tail, All-append, All-contains, All-weaker}
+use Rattle.std.proofs.lemmas.List.Elements.{All-nil, All-cons, All-append, All-contains, All-weaker}
 use Rattle.std.proofs.lemmas.List.FromFn.{length-map-range_with_len}
 use Rattle.std.proofs.lemmas.Option.{same_Some, none-some, slice_get-get_or}
 use Rattle.gs_rs.specs.Shape.{audio_code}
@@ -15,8 +15,9 @@ use Rattle.gs_rtp.specs.Stream.{StreamSettings, AreSettingsWithinLimits}
 use Rattle.gs_rtp.specs.declared.audio.AudioHead.{AudioHead}
 use Rattle.gs_rtp.specs.Audio.{IsAudioHead, audio_header, audio_head, ReadsBackAudio}
 use Rattle.gs_rtp.specs.AudioDatagrams.{numbered, units_of_block, unit_datagram, parity_datagram, unit_datagrams, audio_datagrams}
-use Rattle.gs_audio.specs.Received.{AudioShard, shard_number, carried_shard, of_session, received_audio, taken_audio}
+use Rattle.gs_audio.specs.Received.{AudioShard, shard_number, carried_audio, audio_of_session, received_audio, taken_audio}
 use Rattle.gs_audio.specs.PlayedLaws.{AreSessionUnits, AreOfUnits}
+use Rattle.gs_bytes.proofs.Lists.{All-filter_map}
 use Rattle.gs_audio.proofs.Sent.{numbered-is}
 
 -- ---- shards of a block
@@ -59,8 +60,8 @@ received-is reads s h shard limits some grammar own size =
     let made : List ℕ → Option AudioShard = λ b. Some (record { block = h.block; shard = record { index = shard_number h; bytes = b } }) in
     let cut : drop (length bytes - s.audio) bytes ≡ shard =
     drop_at (audio_header s h) shard (length bytes - s.audio) (omega (arith, length-append (audio_header s h) shard, size)) in
-    ap (of_session s bytes) read
-    ∙ cond-true (h.ssrc == s.ssrc) (Some (carried_shard s bytes h)) None (eq-eqb h.ssrc s.ssrc own)
+    ap (audio_of_session s bytes) read
+    ∙ cond-true (h.ssrc == s.ssrc) (Some (carried_audio s bytes h)) None (eq-eqb h.ssrc s.ssrc own)
     ∙ ap made cut
 
 -- a stream without audio has none
@@ -150,15 +151,6 @@ of-units reads s units limits are bytes among = elim (cases_eq s.audio 0) [
       All-contains (Takes s units) (audio_datagrams s units) bytes
       (All-range (Takes s units) (unit_datagrams s units) 0 (length units) (λ n h. of-unit reads s units n limits are some (omega arith))) among
 ]
-
-pub All-filter_map : {X Y : Type 0} (g : X → Option Y) (P : Y → Type 0) (xs : List X) → All (λ x. (y : Y) → g x ≡ Some y → P y) xs → All P (filter_map g xs)
-All-filter_map g P [] all = All-nil P
-All-filter_map {X} {Y} g P (x ∷ xs) all =
-    onto (g x) (All-head (λ x'. (y : Y) → g x' ≡ Some y → P y) x xs all) (All-filter_map g P xs (All-tail (λ x'. (y : Y) → g x' ≡ Some y → P y) x xs all))
-  where
-    onto : (o : Option Y) → ((y : Y) → o ≡ Some y → P y) → All P (filter_map g xs) → All P (cons_option o (filter_map g xs))
-    onto None h rest = rest
-    onto (Some y) h rest = All-cons P y (filter_map g xs) (h y refl) rest
 
 -- so is each that is taken of what came
 pub taken-of : ReadsBackAudio → (s : StreamSettings) (units came : List (List ℕ)) → AreSettingsWithinLimits s → AreSessionUnits s units

@@ -10,7 +10,7 @@ use Rattle.gs_rs.specs.Shards.{HeldShard, block_shard}
 use Rattle.gs_rs.specs.Restore.{IsPresent, count_present, RestoresSomeBlock}
 use Rattle.gs_rs.proofs.Rows.{IsCode-audio}
 use Rattle.gs_rs.proofs.HeldShards.{held_shards_fix}
-use Rattle.gs_audio.specs.Places.{AreShards, HasMarks, HasPlaced, HasRestored}
+use Rattle.gs_audio.specs.Places.{AreAudioShards, HasMarks, HasPlacedAudio, HasRestored}
 use Rattle.gs_audio.proofs.Counted.{among-held, count-marks}
 use Rattle.gs_rs.proofs.Flags.{count-before}
 use Rattle.gs_rs.proofs.PlaceWrites.{front-place}
@@ -22,7 +22,7 @@ enough few (Err e) P is some p = let less = some.0 refl in absurd (omega arith)
 
 -- what was restored is what the held shards fix
 restored : (size : ℕ) (held : List HeldShard) (present : List Bool) (before after : List ℕ) → length present ≡ 6 → length after ≡ 6 * size
-    → AreShards held → HasMarks present held → HasPlaced size before held → length held ≡ 4
+    → AreAudioShards held → HasMarks present held → HasPlacedAudio size before held → length held ≡ 4
     → RestoresSomeBlock audio_code size present before after → HasRestored size after held
 restored size held present before after six whole are marks placed full some i h =
     let block = some.0 in
@@ -41,7 +41,7 @@ restored size held present before after six whole are marks placed full some i h
 
 pub units-restored : (size : ℕ) (held : List HeldShard) (present : List Bool) (before after : List ℕ) (code : CodeShape) (result : Result (Unit {0}) TooFew)
     → code ≡ audio_code → length present ≡ 6 → length before ≡ 6 * size → length after ≡ length before
-    → AreShards held → HasMarks present held → HasPlaced size before held → length held ≡ 4
+    → AreAudioShards held → HasMarks present held → HasPlacedAudio size before held → length held ≡ 4
     → IsErr result ↔ (count_present present < code.data) → OnOk result (RestoresSomeBlock code size present before after)
     → HasRestored size after held
 units-restored size held present before after code result code_is six room kept are marks placed full few some =

@@ -1,25 +1,25 @@
 -- The datagrams of units, and what a sender keeps for them.
-use Rattle.std.proofs.Common.{◌≡◌, ◌≢◌, ◌<◌, ◌≤◌, ◌+◌, ◌-◌, ◌*◌, ◌/◌, ◌%◌, ℕ, zero, suc, true, false, cond, List, [], ◌∷◌, ◌++◌, length, get_or, take, drop}
+use Rattle.std.proofs.Common.{◌≡◌, ◌≢◌, ◌<◌, ◌≤◌, ◌+◌, ◌-◌, ◌*◌, ◌/◌, ◌%◌, ℕ, zero, suc, cond, List, [], ◌∷◌, ◌++◌, length, get_or, take, drop}
 use Rattle.std.proofs.Common.{refl, sym, ap, subst, ◌∙◌, arith, inl, inr}
 use Rattle.std.specs.Prelude.{◌==◌}
 use Rattle.std.specs.List.{All, concat, flat_map, range_with_len}
 use Rattle.std.proofs.lemmas.Bool.{cases_eq, cond-true, cond-false, eq-eqb, ne_eqb}
-use Rattle.std.proofs.lemmas.List.{length-append, length-drop, append-nil, append_assoc, take_all, take-append-le, drop-append-le, get_or_append_left}
+use Rattle.std.proofs.lemmas.List.{length-append, length-drop, append-nil, append_assoc, take_all, drop-append-le}
 use Rattle.std.proofs.lemmas.List.Elements.{All-take, All-drop, All-append, All-cons, All-nil}
 use Rattle.std.proofs.lemmas.List.Folds.{concat-append}
 use Rattle.std.proofs.Math.Seq.{take-append_seam, drop-append-add}
+use Rattle.std.proofs.lemmas.List.{nil_from_length}
 use Rattle.gs_gf256.specs.Field.{IsByte}
 use Rattle.gs_rs.specs.declared.shape.CodeShape.{CodeShape}
 use Rattle.gs_rs.specs.Shape.{audio_code}
 use Rattle.gs_rs.specs.Codeword.{IsBlock}
-use Rattle.gs_rs.specs.Shards.{parity_shard}
 use Rattle.gs_rs.proofs.Rows.{IsCode-audio}
 use Rattle.gs_rtp.specs.Stream.{StreamSettings}
-use Rattle.gs_rtp.specs.declared.audio.AudioHead.{AudioHead}
-use Rattle.gs_rtp.specs.Audio.{audio_header}
 use Rattle.gs_rtp.specs.AudioDatagrams.{numbered, units_of_block, unit_datagram, parity_datagram, unit_datagrams, audio_datagrams}
-use Rattle.gs_audio.specs.Sending.{Sending, HasParity, HasPushed, last_datagrams, last_block, next_block, ready_behind, AudioDatagramsGrow}
+use Rattle.gs_rtp.proofs.AudioUnits.{unit_datagrams-front}
+use Rattle.gs_audio.specs.Sending.{Sending, HasParityShards, HasPushed, last_datagrams, last_block, next_units, ready_behind, AudioDatagramsGrow}
 use Rattle.gs_rs.proofs.LaidShards.{HaveSize, block-is}
+use Rattle.gs_bytes.proofs.Lists.{flat_map-range}
 
 -- ---- units by their numbers
 
@@ -28,41 +28,7 @@ numbered-is [] n = refl
 numbered-is (unit ∷ units) zero = refl
 numbered-is (unit ∷ units) (suc n) = numbered-is units n
 
-numbered-front : (xs ys : List (List ℕ)) (n : ℕ) → n < length xs → numbered (xs ++ ys) n ≡ numbered xs n
-numbered-front xs ys n h = numbered-is (xs ++ ys) n ∙ get_or_append_left xs ys [] n h ∙ sym (numbered-is xs n)
-
--- a block within the front
-block-front : (xs ys : List (List ℕ)) (b : ℕ) → b * 4 + 4 ≤ length xs → units_of_block (xs ++ ys) b ≡ units_of_block xs b
-block-front xs ys b h =
-    ap (take 4) (drop-append-le (b * 4) xs ys (omega arith))
-    ∙ take-append-le 4 (drop (b * 4) xs) ys (omega (arith, length-drop (b * 4) xs))
-
--- the datagrams of a unit within the front
-datagrams-front : (s : StreamSettings) (xs ys : List (List ℕ)) (n : ℕ) → n < length xs → unit_datagrams s (xs ++ ys) n ≡ unit_datagrams s xs n
-datagrams-front s xs ys n h =
-    let head : AudioHead = record { parity = false; shard = n % 4; block = n / 4; ssrc = s.ssrc } in
-    let own : unit_datagram s (xs ++ ys) n ≡ unit_datagram s xs n = ap (λ (u : List ℕ). audio_header s head ++ u) (numbered-front xs ys n h) in
-    let both : List (List ℕ) → List (List ℕ) = λ us. parity_datagram s us (n / 4) 0 ∷ parity_datagram s us (n / 4) 1 ∷ [] in
-    let rest : List (List ℕ) → List (List ℕ) = λ us. cond (n % 4 == 3) (both us) [] in
-    let parity : rest (xs ++ ys) ≡ rest xs = elim (cases_eq (n % 4) 3) [
-      | inr other ↦ cond-false (n % 4 == 3) (both (xs ++ ys)) [] (ne_eqb (n % 4) 3 other)
-          ∙ sym (cond-false (n % 4 == 3) (both xs) [] (ne_eqb (n % 4) 3 other))
-      | inl last ↦
-          let same = block-front xs ys (n / 4) (omega arith) in
-          let At : List (List ℕ) → List (List ℕ) =
-          λ us. (audio_header s (record { parity = true; shard = 0; block = n / 4; ssrc = s.ssrc }) ++ parity_shard audio_code s.audio us 0)
-          ∷ (audio_header s (record { parity = true; shard = 1; block = n / 4; ssrc = s.ssrc }) ++ parity_shard audio_code s.audio us 1) ∷ [] in
-          ap (λ (us : List (List ℕ)). cond (n % 4 == 3) (At us) []) same
-    ] in
-    ap (λ (d : List ℕ). d ∷ rest (xs ++ ys)) own ∙ ap (λ (r : List (List ℕ)). unit_datagram s xs n ∷ r) parity
-
 -- ---- the datagrams of one unit more
-
-same-on-range : (f g : ℕ → List (List ℕ)) (a n : ℕ) → ((i : ℕ) → i < a + n → f i ≡ g i) → flat_map f (range_with_len a n) ≡ flat_map g (range_with_len a n)
-same-on-range f g a zero same = refl
-same-on-range f g a (suc n) same =
-    ap (λ (l : List (List ℕ)). l ++ flat_map f (range_with_len (a + 1) n)) (same a (omega arith))
-    ∙ ap (λ (l : List (List ℕ)). g a ++ l) (same-on-range f g (a + 1) n (λ i h. same i (omega arith)))
 
 range-more : (f : ℕ → List (List ℕ)) (a n : ℕ) → flat_map f (range_with_len a (suc n)) ≡ flat_map f (range_with_len a n) ++ f (a + n)
 range-more f a zero = append-nil (f a) ∙ ap f (omega arith)
@@ -84,7 +50,7 @@ datagrams-grow s units u =
     ap (λ (m : ℕ). flat_map (unit_datagrams s all) (range_with_len 0 m)) (one_more units u)
     ∙ range-more (unit_datagrams s all) 0 n
     ∙ ap (λ (l : List (List ℕ)). l ++ unit_datagrams s all (0 + n))
-    (same-on-range (unit_datagrams s all) (unit_datagrams s units) 0 n (λ i h. datagrams-front s units (u ∷ []) i (omega arith)))
+    (flat_map-range (unit_datagrams s all) (unit_datagrams s units) 0 n (λ i h. unit_datagrams-front s units (u ∷ []) i (omega arith)))
     ∙ ap (λ (m : ℕ). audio_datagrams s units ++ unit_datagrams s all m) (omega (arith, before_last units u))
 
 -- how many the last unit has
@@ -111,17 +77,17 @@ ready-more s (v ∷ units) u = refl
 
 -- ---- the units of a block so far
 
-next-is : (units : List (List ℕ)) → next_block units ≡ drop (length units / 4 * 4) units
+next-is : (units : List (List ℕ)) → next_units units ≡ drop (length units / 4 * 4) units
 next-is units =
     let n = length units in
     take_all 4 (drop (n / 4 * 4) units) (omega (arith, length-drop (n / 4 * 4) units))
 
-length-next : (units : List (List ℕ)) → length (next_block units) ≡ length units % 4
+length-next : (units : List (List ℕ)) → length (next_units units) ≡ length units % 4
 length-next units =
     let n = length units in
     ap length (next-is units) ∙ omega (arith, length-drop (n / 4 * 4) units)
 
-last-more : (units : List (List ℕ)) (u : List ℕ) → last_block (units ++ u ∷ []) ≡ next_block units ++ u ∷ []
+last-more : (units : List (List ℕ)) (u : List ℕ) → last_block (units ++ u ∷ []) ≡ next_units units ++ u ∷ []
 last-more units u =
     let n = length units in
     let m = n / 4 * 4 in
@@ -134,27 +100,23 @@ last-more units u =
 
 length-last : (units : List (List ℕ)) (u : List ℕ) → length (last_block (units ++ u ∷ [])) ≡ length units % 4 + 1
 length-last units u =
-    ap length (last-more units u) ∙ omega (arith, length-append (next_block units) (u ∷ []), length-next units)
+    ap length (last-more units u) ∙ omega (arith, length-append (next_units units) (u ∷ []), length-next units)
 
 -- ---- what is kept
 
-none_of : (xs : List (List ℕ)) → length xs ≡ 0 → xs ≡ []
-none_of [] e = refl
-none_of (x ∷ xs) e = absurd (omega arith)
-
 next-kept : (s : Sending) (units : List (List ℕ)) → HasPushed s units
-    → take (length units % 4 * s.settings.audio) s.shards ≡ concat (next_block units)
+    → take (length units % 4 * s.settings.audio) s.shards ≡ concat (next_units units)
 next-kept s units has =
     let n = length units in
     let size = s.settings.audio in
     elim (cases_eq (n % 4) 0) [
       | inl first ↦
-          let none = none_of (next_block units) (length-next units ∙ first) in
+          let none = nil_from_length (next_units units) (length-next units ∙ first) in
           let empty : n % 4 * size ≡ 0 = ap (λ (m : ℕ). m * size) first ∙ omega arith in
           ap (λ (m : ℕ). take m s.shards) empty ∙ sym (ap concat none)
       | inr more ↦
           let same : (n - 1) / 4 ≡ n / 4 = omega arith in
-          let blocks : last_block units ≡ next_block units = ap (units_of_block units) same in
+          let blocks : last_block units ≡ next_units units = ap (units_of_block units) same in
           let count : length (last_block units) ≡ n % 4 = ap length blocks ∙ length-next units in
           ap (λ (m : ℕ). take (m * size) s.shards) (sym count) ∙ has.kept ∙ ap concat blocks
     ]
@@ -174,8 +136,8 @@ kept-more s units u shards has size written =
     ∙ written
     ∙ ap (λ (m : ℕ). take m s.shards ++ u) front
     ∙ ap (λ (l : List ℕ). l ++ u) (next-kept s units has)
-    ∙ ap (λ (l : List ℕ). concat (next_block units) ++ l) (sym (append-nil u))
-    ∙ sym (concat-append (next_block units) (u ∷ []))
+    ∙ ap (λ (l : List ℕ). concat (next_units units) ++ l) (sym (append-nil u))
+    ∙ sym (concat-append (next_units units) (u ∷ []))
     ∙ ap concat (sym (last-more units u))
 
 sizes-more : (size : ℕ) (units : List (List ℕ)) (u : List ℕ) → HaveSize size units → length u ≡ size → HaveSize size (units ++ u ∷ [])
@@ -205,7 +167,7 @@ pub pushed-whole : (s t : Sending) (units : List (List ℕ)) (u mid : List ℕ) 
     → t.settings ≡ s.settings → t.pushed ≡ s.pushed + 1 → t.ready ≡ 3 → s.pushed % 4 + 1 ≡ 4
     → take (s.pushed % 4 * length u + length u) mid ≡ take (s.pushed % 4 * length u) s.shards ++ u
     → take (4 * length u) t.shards ≡ take (4 * length u) mid
-    → ((us : List (List ℕ)) → length us ≡ 4 → HaveSize (length u) us → take (4 * length u) mid ≡ concat us → HasParity (length u) us t.shards)
+    → ((us : List (List ℕ)) → length us ≡ 4 → HaveSize (length u) us → take (4 * length u) mid ≡ concat us → HasParityShards (length u) us t.shards)
     → HasPushed t (units ++ u ∷ [])
 pushed-whole s t units u mid has size settings count ready last written front parity =
     let n = length units in
@@ -225,7 +187,7 @@ pushed-whole s t units u mid has size settings count ready last written front pa
     let far : 4 * length u ≡ length block * s.settings.audio = ap (λ (m : ℕ). m * length u) (sym four) ∙ ap (λ (m : ℕ). length block * m) size in
     let of_mid : take (4 * length u) mid ≡ concat block = ap (λ (m : ℕ). take m mid) far ∙ kept in
     let far' : length block * t.settings.audio ≡ 4 * length u = ap (λ (m : ℕ). length block * m) audio ∙ sym far in
-    let Parity : ℕ → Type 0 = λ m. HasParity m block t.shards in
+    let Parity : ℕ → Type 0 = λ m. HasParityShards m block t.shards in
     record {
       count = omega (arith, count, has.count, one_more units u);
       sizes = subst Sizes (sym audio) sizes;
@@ -250,7 +212,7 @@ of_lists P (list ∷ lists) all =
 
 -- what is written behind a block's units is their parity
 pub encoded-parity : (size : ℕ) (units : List (List ℕ)) (front parity : List ℕ) (code : CodeShape) → length units ≡ 4 → HaveSize size units
-    → front ≡ concat units → code ≡ audio_code → IsBlock code size (front ++ parity) → HasParity size units (front ++ parity)
+    → front ≡ concat units → code ≡ audio_code → IsBlock code size (front ++ parity) → HasParityShards size units (front ++ parity)
 encoded-parity size units front parity code four sizes front_is code_is block =
     let coded : IsBlock audio_code size (front ++ parity) = subst (λ c. IsBlock c size (front ++ parity)) code_is block in
     let laid : IsBlock audio_code size (concat units ++ parity) = subst (λ l. IsBlock audio_code size (l ++ parity)) front_is coded in

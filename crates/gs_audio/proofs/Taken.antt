@@ -1,10 +1,9 @@
 -- What a datagram brings.
-use Rattle.std.proofs.Common.{◌≡◌, ◌<◌, ◌≤◌, ◌+◌, ◌-◌, ◌*◌, ◌/◌, ◌%◌, ℕ, Bool, true, false, ◌&&◌, not, cond, List, ◌∷◌, length, take, drop, Option, Some, None}
+use Rattle.std.proofs.Common.{◌≡◌, ◌<◌, ◌≤◌, ◌+◌, ◌*◌, ◌/◌, ◌%◌, ℕ, Bool, true, false, ◌&&◌, not, cond, List, ◌∷◌, length, Option, Some, None}
 use Rattle.std.proofs.Common.{refl, sym, ap, subst, ◌∙◌, ◌⊎◌, arith, inl, inr}
 use Rattle.std.specs.Prelude.{◌==◌, nat_lt, slice_index}
 use Rattle.std.specs.List.{cons_option}
 use Rattle.std.proofs.lemmas.Bool.{cases_Bool, cond-true, cond-false, eqb-true, ltb-true, and_parts}
-use Rattle.std.proofs.lemmas.List.{take_all, length-drop}
 use Rattle.byteorder.specs.Endian.{big_from}
 use Rattle.gs_rtp.specs.Stream.{StreamSettings}
 use Rattle.gs_rtp.specs.declared.audio.AudioHead.{AudioHead}
@@ -12,10 +11,10 @@ use Rattle.gs_rtp.specs.Audio.{audio_head, is_unit_datagram, is_parity_datagram,
 use Rattle.gs_audio.specs.declared.queue.AudioQueue.{AudioQueue}
 use Rattle.gs_audio.specs.declared.queue.Plays.{Plays}
 use Rattle.gs_audio.specs.declared.queue.Plays.TheVariants.{Nothing}
-use Rattle.gs_audio.specs.Received.{AudioShard, shard_number, carried_shard, of_session, received_audio, taken_audio}
+use Rattle.gs_audio.specs.Received.{AudioShard, shard_number, carried_audio, audio_of_session, received_audio, taken_audio}
 use Rattle.gs_audio.specs.Played.{PlayedUnit, played_by_taken, newly_played}
-use Rattle.gs_audio.specs.Standing.{IsStanding, StandsFor, PlaysUnits}
-use Rattle.gs_audio.specs.Steps.{session_head, TakesShard, TakesDatagram}
+use Rattle.gs_audio.specs.Standing.{IsAudioStanding, IsAudioQueueOf, PlaysUnits}
+use Rattle.gs_audio.specs.Steps.{session_head, TakesShard, TakesAudioDatagram}
 
 -- ---- the head of a datagram in the grammar
 
@@ -93,20 +92,20 @@ session-place s bytes h e = head-place s bytes h (session-is s.ssrc (audio_head 
 some_none : (h : AudioHead) → Some h ≡ None → ⊥
 some_none h e = cc
 
-none-of : (s : StreamSettings) (bytes : List ℕ) (o : Option AudioHead) → session_head s.ssrc o ≡ None → of_session s bytes o ≡ None
+none-of : (s : StreamSettings) (bytes : List ℕ) (o : Option AudioHead) → session_head s.ssrc o ≡ None → audio_of_session s bytes o ≡ None
 none-of s bytes None e = refl
 none-of s bytes (Some g) e = elim (cases_Bool (g.ssrc == s.ssrc)) [
   | inl on ↦ absurd (some_none g (sym (cond-true (g.ssrc == s.ssrc) (Some g) None on) ∙ e))
-  | inr off ↦ cond-false (g.ssrc == s.ssrc) (Some (carried_shard s bytes g)) None off
+  | inr off ↦ cond-false (g.ssrc == s.ssrc) (Some (carried_audio s bytes g)) None off
 ]
 
 some-of : (s : StreamSettings) (bytes : List ℕ) (o : Option AudioHead) (h : AudioHead) → session_head s.ssrc o ≡ Some h
-    → of_session s bytes o ≡ Some (carried_shard s bytes h)
+    → audio_of_session s bytes o ≡ Some (carried_audio s bytes h)
 some-of s bytes None h e = absurd (none_is h e)
 some-of s bytes (Some g) h e = elim (which (g.ssrc == s.ssrc) (Some g) None h e) [
   | inl on ↦
-      cond-true (g.ssrc == s.ssrc) (Some (carried_shard s bytes g)) None on.0
-      ∙ ap (λ (x : AudioHead). Some (carried_shard s bytes x)) (some_is g h on.1)
+      cond-true (g.ssrc == s.ssrc) (Some (carried_audio s bytes g)) None on.0
+      ∙ ap (λ (x : AudioHead). Some (carried_audio s bytes x)) (some_is g h on.1)
   | inr off ↦ absurd (none_is h off.1)
 ]
 
@@ -115,13 +114,9 @@ unfolding received_audio
 received-none s bytes e = none-of s bytes (audio_head s bytes) e
 
 received-some : (s : StreamSettings) (bytes : List ℕ) (h : AudioHead) → session_head s.ssrc (audio_head s bytes) ≡ Some h
-    → received_audio s bytes ≡ Some (carried_shard s bytes h)
+    → received_audio s bytes ≡ Some (carried_audio s bytes h)
 unfolding received_audio
 received-some s bytes h e = some-of s bytes (audio_head s bytes) h e
-
--- its shard, as it is cut from it
-pub shard-cut : (bytes : List ℕ) (m : ℕ) → take (length bytes - m) (drop m bytes) ≡ drop m bytes
-shard-cut bytes m = take_all (length bytes - m) (drop m bytes) (omega (arith, length-drop m bytes))
 
 -- ---- a datagram taken
 
@@ -134,19 +129,19 @@ taken-by : (s : StreamSettings) (bytes : List ℕ) (came : List (List ℕ)) (o :
     → taken_audio s (bytes ∷ came) ≡ cons_option o (taken_audio s came)
 taken-by s bytes came o e = ap (λ (p : Option AudioShard). cons_option p (taken_audio s came)) e
 
-pub take-none : (q : AudioQueue) (s : StreamSettings) (came : List (List ℕ)) (bytes : List ℕ) → StandsFor q s came
-    → session_head s.ssrc (audio_head s bytes) ≡ None → TakesDatagram q Nothing bytes s came
+pub take-none : (q : AudioQueue) (s : StreamSettings) (came : List (List ℕ)) (bytes : List ℕ) → IsAudioQueueOf q s came
+    → session_head s.ssrc (audio_head s bytes) ≡ None → TakesAudioDatagram q Nothing bytes s came
 take-none q s came bytes stands e =
     let none = received-none s bytes e in
-    let Stands : List AudioShard → Type 0 = λ rs. IsStanding q s rs in
+    let Stands : List AudioShard → Type 0 = λ rs. IsAudioStanding q s rs in
     (newly-by s bytes came None none, subst Stands (sym (taken-by s bytes came None none)) stands)
 
 pub take-some : (after : AudioQueue) (plays : Plays) (s : StreamSettings) (came : List (List ℕ)) (bytes : List ℕ) (h : AudioHead)
-    → session_head s.ssrc (audio_head s bytes) ≡ Some h → TakesShard after plays (carried_shard s bytes h) s (taken_audio s came)
-    → TakesDatagram after plays bytes s came
+    → session_head s.ssrc (audio_head s bytes) ≡ Some h → TakesShard after plays (carried_audio s bytes h) s (taken_audio s came)
+    → TakesAudioDatagram after plays bytes s came
 take-some after plays s came bytes h e takes =
-    let r = carried_shard s bytes h in
+    let r = carried_audio s bytes h in
     let some = received-some s bytes h e in
-    let Stands : List AudioShard → Type 0 = λ rs. IsStanding after s rs in
+    let Stands : List AudioShard → Type 0 = λ rs. IsAudioStanding after s rs in
     let Plays_ : List PlayedUnit → Type 0 = λ units. PlaysUnits after plays units in
     (subst Plays_ (sym (newly-by s bytes came (Some r) some)) takes.0, subst Stands (sym (taken-by s bytes came (Some r) some)) takes.1)

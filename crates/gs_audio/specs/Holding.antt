@@ -6,16 +6,16 @@ use Rattle.gs_rs.specs.Shards.{HeldShard}
 use Rattle.gs_rtp.specs.Audio.{block_units}
 use Rattle.gs_audio.specs.declared.room.Room.{Room}
 use Rattle.gs_audio.specs.Played.{PlayedUnit, whole_units, held_units}
-use Rattle.gs_audio.specs.Places.{AreShards, HasMarks, HasPlaced, HasRestored}
+use Rattle.gs_audio.specs.Places.{AreAudioShards, HasMarks, HasPlacedAudio, HasRestored}
 
 -- what stands at a place of the room
 abbrev pub shard_in : Room → ℕ → List ℕ
 shard_in room place = shard_of room.size room.bytes.items place
 
 -- each of them stands at the place of its number, which is marked
-pub record ArePlaced (room : Room) (held : List HeldShard) : Type 0 where
+pub record AreInRoom (room : Room) (held : List HeldShard) : Type 0 where
   pub marks : HasMarks room.present held
-  pub places : HasPlaced room.size room.bytes.items held
+  pub places : HasPlacedAudio room.size room.bytes.items held
 
 -- the units of the block that they fix stand at their places, which are marked
 pub record HasUnits (room : Room) (held : List HeldShard) : Type 0 where
@@ -23,10 +23,10 @@ pub record HasUnits (room : Room) (held : List HeldShard) : Type 0 where
   pub units : HasRestored room.size room.bytes.items held
 
 -- They are held: each at its place or, where they fix the block, all its units.
-pub record HoldsShards (room : Room) (held : List HeldShard) : Type 0 where
+pub record HoldsAudioShards (room : Room) (held : List HeldShard) : Type 0 where
   pub count : room.held ≡ length held
-  pub are : AreShards held
-  pub placed : length held < block_units → ArePlaced room held
+  pub are : AreAudioShards held
+  pub placed : length held < block_units → AreInRoom room held
   pub whole : length held ≡ block_units → HasUnits room held
 
 -- the units that stand in a room: all of a block that is fixed, else those that are held

@@ -17,20 +17,20 @@ abbrev pub shard_number : AudioHead → ℕ
 shard_number head = if head.parity then block_units + head.shard else head.shard
 
 -- the shard that such a datagram carries: its last bytes
-abbrev pub carried_shard : StreamSettings → List ℕ → AudioHead → AudioShard
-carried_shard settings bytes head = record {
+abbrev pub carried_audio : StreamSettings → List ℕ → AudioHead → AudioShard
+carried_audio settings bytes head = record {
   block = head.block;
   shard = record { index = shard_number head; bytes = drop (length bytes - settings.audio) bytes };
 }
 
-abbrev pub of_session : StreamSettings → List ℕ → Option AudioHead → Option AudioShard
-of_session settings bytes None = None
-of_session settings bytes (Some head) =
-    if head.ssrc == settings.ssrc then Some (carried_shard settings bytes head) else None
+abbrev pub audio_of_session : StreamSettings → List ℕ → Option AudioHead → Option AudioShard
+audio_of_session settings bytes None = None
+audio_of_session settings bytes (Some head) =
+    if head.ssrc == settings.ssrc then Some (carried_audio settings bytes head) else None
 
 -- what a client takes of the bytes that came: nothing where they aren't a datagram of its session
 unfoldable pub received_audio : StreamSettings → List ℕ → Option AudioShard
-received_audio settings bytes = of_session settings bytes (audio_head settings bytes)
+received_audio settings bytes = audio_of_session settings bytes (audio_head settings bytes)
 
 -- what is taken of all that came
 abbrev pub taken_audio : StreamSettings → List (List ℕ) → List AudioShard

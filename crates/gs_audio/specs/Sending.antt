@@ -32,8 +32,8 @@ ready_behind settings [] = 0
 ready_behind settings (unit ∷ units) = length (last_datagrams settings (unit ∷ units))
 
 -- the shards begin with these units, all of a block, and end with their parity
-abbrev pub HasParity : ℕ → List (List ℕ) → List ℕ → Type 0
-HasParity size units shards = shards ≡ concat (with_parity_shards audio_code size units)
+abbrev pub HasParityShards : ℕ → List (List ℕ) → List ℕ → Type 0
+HasParityShards size units shards = shards ≡ concat (with_parity_shards audio_code size units)
 
 -- These units were pushed, in this order: those of the last one's block are kept, with their parity where it is whole.
 pub record HasPushed (s : Sending) (units : List (List ℕ)) : Type 0 where
@@ -43,10 +43,10 @@ pub record HasPushed (s : Sending) (units : List (List ℕ)) : Type 0 where
   pub kept : take (length (last_block units) * s.settings.audio) s.shards ≡ concat (last_block units)
   pub whole :
       length (last_block units) ≡ block_units
-      → HasParity s.settings.audio (last_block units) s.shards
+      → HasParityShards s.settings.audio (last_block units) s.shards
 
 -- what a sender's fields have: room for the shards of a block, and at most so many units and datagrams
-pub record IsSound (audio pushed ready room : ℕ) : Type 0 where
+pub record IsSendingSound (audio pushed ready room : ℕ) : Type 0 where
   pub most : audio ≤ most_audio
   pub size : room ≡ 6 * audio
   pub few : pushed ≤ units_end
@@ -61,8 +61,8 @@ AudioDatagramsGrow =
     ≡ audio_datagrams settings units ++ last_datagrams settings (units ++ unit ∷ [])
 
 -- the units of the block that the next one joins
-abbrev pub next_block : List (List ℕ) → List (List ℕ)
-next_block units = units_of_block units (length units / block_units)
+abbrev pub next_units : List (List ℕ) → List (List ℕ)
+next_units units = units_of_block units (length units / block_units)
 
 -- the head of a datagram that is ready behind so many units, by its number
 abbrev pub ready_head : Sending → ℕ → AudioHead

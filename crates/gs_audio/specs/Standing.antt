@@ -8,24 +8,25 @@ use Rattle.gs_audio.specs.declared.queue.Plays.{Plays}
 use Rattle.gs_audio.specs.declared.queue.Plays.TheVariants.{Nothing, Left, Whole}
 use Rattle.gs_audio.specs.declared.room.Room.{Room}
 use Rattle.gs_audio.specs.Received.{AudioShard, shards_of_block, taken_audio}
-use Rattle.gs_audio.specs.Played.{PlayedUnit, greatest_block, counting}
-use Rattle.gs_audio.specs.Holding.{HoldsShards, room_units}
+use Rattle.gs_audio.specs.Played.{PlayedUnit, greatest_block, counting_shards}
+use Rattle.gs_audio.specs.Holding.{HoldsAudioShards, room_units}
 
 -- Of what was taken, the shards that count of the greatest block are held.
-pub record IsStanding (q : AudioQueue) (settings : StreamSettings) (rs : List AudioShard) : Type 0 where
+pub record IsAudioStanding (q : AudioQueue) (settings : StreamSettings) (rs : List AudioShard) : Type 0 where
   pub settings_are : numbers_of q.settings ≡ settings
   pub greatest : q.block ≡ greatest_block rs
   pub holds :
-      (block : ℕ) → greatest_block rs ≡ Some block → HoldsShards q.current (shards_of_block block (counting rs))
+      (block : ℕ) → greatest_block rs ≡ Some block
+      → HoldsAudioShards q.current (shards_of_block block (counting_shards rs))
 
 -- It stands for all the datagrams that came, the newest first.
-abbrev pub StandsFor : AudioQueue → StreamSettings → List (List ℕ) → Type 0
-StandsFor q settings came = IsStanding q settings (taken_audio settings came)
+abbrev pub IsAudioQueueOf : AudioQueue → StreamSettings → List (List ℕ) → Type 0
+IsAudioQueueOf q settings came = IsAudioStanding q settings (taken_audio settings came)
 
 -- the units are those that stand in a room, as those of a block whose first unit has this number
 pub record AreUnitsIn (room : Room) (first : ℕ) (units : List PlayedUnit) : Type 0 where
   pub held : List HeldShard
-  pub holds : HoldsShards room held
+  pub holds : HoldsAudioShards room held
   pub block : ℕ
   pub first_is : first ≡ block * block_units
   pub are : units ≡ room_units room.size block held

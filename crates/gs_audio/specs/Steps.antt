@@ -7,12 +7,12 @@ use Rattle.gs_audio.specs.declared.room.Room.{Room}
 use Rattle.gs_audio.specs.declared.queue.AudioQueue.{AudioQueue}
 use Rattle.gs_audio.specs.declared.queue.Plays.{Plays}
 use Rattle.gs_audio.specs.Received.{AudioShard}
-use Rattle.gs_audio.specs.Played.{greatest_block, counting, played_behind, newly_played}
+use Rattle.gs_audio.specs.Played.{greatest_block, counting_shards, played_behind, newly_played}
 use Rattle.gs_audio.specs.Holding.{shard_in}
-use Rattle.gs_audio.specs.Standing.{IsStanding, StandsFor, PlaysUnits}
+use Rattle.gs_audio.specs.Standing.{IsAudioStanding, IsAudioQueueOf, PlaysUnits}
 
 -- one more shard is held, at its place, and the others stay
-pub record IsPut (before after : Room) (index : ℕ) (shard : List ℕ) : Type 0 where
+pub record IsAudioPut (before after : Room) (index : ℕ) (shard : List ℕ) : Type 0 where
   pub size : after.size ≡ before.size
   pub count : after.held ≡ before.held + 1
   pub marks : after.present ≡ slice_set before.present index true
@@ -36,10 +36,10 @@ is_above block (Some greatest) = nat_lt greatest block
 -- A shard is taken behind those that the queue stands for: what it plays is played, and the queue stands for it too.
 abbrev pub TakesShard : AudioQueue → Plays → AudioShard → StreamSettings → List AudioShard → Type 0
 TakesShard after plays r settings rs =
-    PlaysUnits after plays (played_behind settings r (greatest_block rs) (counting rs))
-    × IsStanding after settings (r ∷ rs)
+    PlaysUnits after plays (played_behind settings r (greatest_block rs) (counting_shards rs))
+    × IsAudioStanding after settings (r ∷ rs)
 
 -- so is a datagram
-abbrev pub TakesDatagram : AudioQueue → Plays → List ℕ → StreamSettings → List (List ℕ) → Type 0
-TakesDatagram after plays bytes settings came =
-    PlaysUnits after plays (newly_played settings bytes came) × StandsFor after settings (bytes ∷ came)
+abbrev pub TakesAudioDatagram : AudioQueue → Plays → List ℕ → StreamSettings → List (List ℕ) → Type 0
+TakesAudioDatagram after plays bytes settings came =
+    PlaysUnits after plays (newly_played settings bytes came) × IsAudioQueueOf after settings (bytes ∷ came)

@@ -1,7 +1,7 @@
 // Units that are played.
 
-/// Units of one block that are to be played now, each in the place of its number in the block. All four are `None` where
-/// there is nothing to play now, and `first` is 0 then.
+/// Units of one block that are to be played now, each in the place of its number in the block. All four are `None`
+/// where there is nothing to play now, and `first` is 0 then.
 #[derive(Clone, Copy)]
 pub struct Played<'a> {
     /// The number of the block's first unit.

@@ -18,8 +18,8 @@ enum Plays {
     Whole { first: u32 },
 }
 
-/// Collects the audio datagrams of a session, block by block, and gives the units that are to be played. It takes all its
-/// memory in `new`.
+/// Collects the audio datagrams of a session, block by block, and gives the units that are to be played. It takes all
+/// its memory in `new`.
 #[derive(Drop)]
 pub struct AudioQueue {
     settings: Settings,
@@ -42,12 +42,12 @@ impl AudioQueue {
     ghost use Rattle.gs_audio.specs.Received.{AudioShard};
     ghost use Rattle.gs_audio.specs.Played.{greatest_block, newly_played};
     ghost use Rattle.gs_audio.specs.Units.{played_units};
-    ghost use Rattle.gs_audio.specs.Standing.{IsStanding, StandsFor, FirstIsOfBlock, left_plays};
-    ghost use Rattle.gs_audio.specs.Steps.{session_head, shard_of_number, is_above, TakesShard, TakesDatagram};
+    ghost use Rattle.gs_audio.specs.Standing.{IsAudioStanding, IsAudioQueueOf, FirstIsOfBlock, left_plays};
+    ghost use Rattle.gs_audio.specs.Steps.{session_head, shard_of_number, is_above, TakesShard, TakesAudioDatagram};
 
     /// The queue of a client to which no datagram came.
     pub fn new(alloc: Global, settings: &Settings) -> Result<AudioQueue, OutOfMemory>
-        ensures { IfOk result (λ queue. StandsFor queue (numbers_of settings.now) []) }
+        ensures { IfOk result (λ queue. IsAudioQueueOf queue (numbers_of settings.now) []) }
     {
         let size = usize::from(settings.audio);
         Ok(AudioQueue {
@@ -60,13 +60,13 @@ impl AudioQueue {
 
     /// What one more datagram, of any bytes, plays.
     pub fn add<'a>(&'a mut self, datagram: &[u8]) -> Played<'a>
-        ensures units { (s : StreamSettings) (came : List (List ℕ)) → StandsFor self.old s came
+        ensures units { (s : StreamSettings) (came : List (List ℕ)) → IsAudioQueueOf self.old s came
             → played_units result ≡ newly_played s datagram.now came }
         ensures nothing { played_units result ≡ [] → result.first ≡ 0 }
         ensures first { result.first % 4 ≡ 0 }
         ensures* stands { sem 𝓛 (Rests the_row self.entry (λ new.
-            (s : StreamSettings) (came : List (List ℕ)) → StandsFor self.old s came
-            → StandsFor new s (datagram.now ∷ came))) }
+            (s : StreamSettings) (came : List (List ℕ)) → IsAudioQueueOf self.old s came
+            → IsAudioQueueOf new s (datagram.now ∷ came))) }
     {
         match self.take(datagram) {
             Plays::Nothing => Played::NOTHING,
@@ -78,8 +78,8 @@ impl AudioQueue {
     // Takes a datagram.
     fn take(&mut self, datagram: &[u8]) -> Plays
         ensures first { FirstIsOfBlock result }
-        ensures takes { (s : StreamSettings) (came : List (List ℕ)) → StandsFor self.old s came
-            → TakesDatagram self.new result datagram.now s came }
+        ensures takes { (s : StreamSettings) (came : List (List ℕ)) → IsAudioQueueOf self.old s came
+            → TakesAudioDatagram self.new result datagram.now s came }
     {
         let Some(head) = self.head_of(datagram) else {
             return Plays::Nothing;
@@ -90,7 +90,8 @@ impl AudioQueue {
 
     // The head of a datagram of the session.
     fn head_of(&self, datagram: &[u8]) -> Option<AudioHead>
-        ensures is { result ≡ session_head self.now.settings.ssrc (audio_head (numbers_of self.now.settings) datagram.now) }
+        ensures is { result ≡ session_head self.now.settings.ssrc
+            (audio_head (numbers_of self.now.settings) datagram.now) }
         ensures block { IfSome result (λ head. head.block < 4194304) }
         ensures number { IfSome result (λ head. shard_number head < 6) }
         ensures room { IfSome result (λ _. self.now.settings.audio ≤ length datagram.now) }
@@ -109,7 +110,7 @@ impl AudioQueue {
         requires index { index < 6 }
         requires size { length shard.now ≡ self.old.settings.audio }
         ensures first { FirstIsOfBlock result }
-        ensures takes { (s : StreamSettings) (rs : List AudioShard) → IsStanding self.old s rs
+        ensures takes { (s : StreamSettings) (rs : List AudioShard) → IsAudioStanding self.old s rs
             → TakesShard self.new result (shard_of_number block index shard.now) s rs }
     {
         let Some(greatest) = self.block else {
@@ -130,7 +131,7 @@ impl AudioQueue {
         requires index { index < 6 }
         requires size { length shard.now ≡ self.old.settings.audio }
         ensures first { FirstIsOfBlock result }
-        ensures takes { (s : StreamSettings) (rs : List AudioShard) → IsStanding self.old s rs
+        ensures takes { (s : StreamSettings) (rs : List AudioShard) → IsAudioStanding self.old s rs
             → greatest_block rs ≡ Option.Some block
             → TakesShard self.new result (shard_of_number block index shard.now) s rs }
     {
@@ -152,7 +153,7 @@ impl AudioQueue {
         requires index { index < 6 }
         requires size { length shard.now ≡ self.old.settings.audio }
         ensures first { FirstIsOfBlock result }
-        ensures takes { (s : StreamSettings) (rs : List AudioShard) → IsStanding self.old s rs
+        ensures takes { (s : StreamSettings) (rs : List AudioShard) → IsAudioStanding self.old s rs
             → is_above block (greatest_block rs) ≡ true
             → TakesShard self.new result (shard_of_number block index shard.now) s rs }
     {

@@ -4,7 +4,7 @@ ghost use Rattle.std.specs.Prelude.{ℕ, ◌≡◌, ◌≢◌, ◌≤◌, ◌<�
 ghost use Rattle.gs_bytes.specs.Limits.{most_audio};
 ghost use Rattle.gs_rs.specs.Codeword.{shard_of};
 ghost use Rattle.gs_rs.specs.Shards.{HeldShard};
-ghost use Rattle.gs_audio.specs.Places.{AreShards, HasMarks, HasPlaced, HasRestored};
+ghost use Rattle.gs_audio.specs.Places.{AreAudioShards, HasMarks, HasPlacedAudio, HasRestored};
 
 use crate::played::Played;
 use gs_bytes::OutOfMemory;
@@ -34,10 +34,11 @@ pub(crate) struct Room {
 impl Room {
     ghost use Rattle.std.specs.Prelude.{false, ◌∷◌, ◌&&◌, ◌==◌, not, nat_lt, IsTrue};
     ghost use Rattle.std.specs.Option.{option_copied};
-    ghost use Rattle.gs_audio.specs.Played.{is_held};
-    ghost use Rattle.gs_audio.specs.Holding.{ArePlaced, HasUnits, HoldsShards, room_units, marked_unit, any_marked};
+    ghost use Rattle.gs_audio.specs.Played.{is_audio_held};
+    ghost use Rattle.gs_audio.specs.Holding.{AreInRoom, HasUnits, HoldsAudioShards, room_units, marked_unit};
+    ghost use Rattle.gs_audio.specs.Holding.{any_marked};
     ghost use Rattle.gs_audio.specs.Units.{played_units};
-    ghost use Rattle.gs_audio.specs.Steps.{IsPut};
+    ghost use Rattle.gs_audio.specs.Steps.{IsAudioPut};
 
     // A room for shards of this size, with none in it.
     pub(crate) fn new(alloc: Global, size: usize) -> Result<Room, OutOfMemory>
@@ -56,7 +57,7 @@ impl Room {
     pub(crate) fn clear(&mut self)
         ensures size { self.new.size ≡ self.old.size }
         ensures count { self.new.held ≡ 0 }
-        ensures holds { HoldsShards self.new [] }
+        ensures holds { HoldsAudioShards self.new [] }
     {
         self.held = 0;
         self.present = [false; BLOCK_SHARDS];
@@ -66,8 +67,8 @@ impl Room {
     pub(crate) fn lacks(&self, index: usize) -> bool
         requires { index < 6 }
         ensures more { IsTrue result → self.now.held < 4 }
-        ensures is { (held : List HeldShard) → HoldsShards self.now held
-            → result ≡ (not (is_held index held) && nat_lt (length held) 4) }
+        ensures is { (held : List HeldShard) → HoldsAudioShards self.now held
+            → result ≡ (not (is_audio_held index held) && nat_lt (length held) 4) }
     {
         usize::from(self.held) < BLOCK_UNITS && !self.present[index]
     }
@@ -78,9 +79,9 @@ impl Room {
         requires size { length shard.now ≡ self.old.size }
         requires more { self.old.held < 4 }
         ensures size { self.new.size ≡ self.old.size }
-        ensures holds { (held : List HeldShard) → HoldsShards self.old held → is_held index held ≡ false
+        ensures holds { (held : List HeldShard) → HoldsAudioShards self.old held → is_audio_held index held ≡ false
             → (result ≡ (length held + 1 == 4))
-            × HoldsShards self.new (record { index = index; bytes = shard.now } ∷ held) }
+            × HoldsAudioShards self.new (record { index = index; bytes = shard.now } ∷ held) }
     {
         self.put(index, shard);
         if !self.is_whole() {
@@ -95,7 +96,7 @@ impl Room {
         requires index { index < 6 }
         requires size { length shard.now ≡ self.old.size }
         requires more { self.old.held < 4 }
-        ensures { IsPut self.old self.new index shard.now }
+        ensures { IsAudioPut self.old self.new index shard.now }
     {
         place(&mut self.bytes, index, shard);
         self.present[index] = true;
@@ -106,7 +107,7 @@ impl Room {
     fn restore(&mut self)
         ensures size { self.new.size ≡ self.old.size }
         ensures count { self.new.held ≡ self.old.held }
-        ensures units { (held : List HeldShard) → AreShards held → ArePlaced self.old held → length held ≡ 4
+        ensures units { (held : List HeldShard) → AreAudioShards held → AreInRoom self.old held → length held ≡ 4
             → HasUnits self.new held }
     {
         restore(&mut self.bytes, &self.present, self.size);
@@ -137,7 +138,7 @@ impl Room {
     pub(crate) fn units(&self, first: u32) -> Played<'_>
         ensures first { first % 4 ≡ 0 → result.first % 4 ≡ 0 }
         ensures nothing { played_units result ≡ [] → result.first ≡ 0 }
-        ensures units { (held : List HeldShard) (block : ℕ) → HoldsShards self.now held → first ≡ block * 4
+        ensures units { (held : List HeldShard) (block : ℕ) → HoldsAudioShards self.now held → first ≡ block * 4
             → played_units result ≡ room_units self.now.size block held }
     {
         let units = [self.unit(0), self.unit(1), self.unit(2), self.unit(3)];
@@ -172,7 +173,8 @@ fn place(bytes: &mut [u8], index: usize, shard: &[u8])
 fn restore(bytes: &mut [u8], present: &[bool], size: usize)
     requires flags { length present.now ≡ 6 }
     requires room { length bytes.old ≡ 6 * size }
-    ensures { (held : List HeldShard) → AreShards held → HasMarks present.now held → HasPlaced size bytes.old held
+    ensures { (held : List HeldShard) → AreAudioShards held → HasMarks present.now held
+        → HasPlacedAudio size bytes.old held
         → length held ≡ 4 → HasRestored size bytes.new held }
 {
     let _ = Code::audio().restore(size, bytes, present);

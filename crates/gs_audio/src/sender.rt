@@ -1,16 +1,19 @@
 // From audio units to their datagrams.
 
-ghost use Rattle.std.specs.Prelude.{ℕ, ◌≡◌, ◌≤◌, ◌<◌, ◌+◌, ◌-◌, ◌*◌, List, [], ◌∷◌, ◌++◌, IfOk, Some, length, take, drop, All};
+ghost use Rattle.std.specs.Prelude.{ℕ, ◌≡◌, ◌≤◌, ◌<◌, ◌+◌, ◌-◌, ◌*◌, List, [], ◌∷◌, ◌++◌, IfOk, Some, length, take};
+ghost use Rattle.std.specs.Prelude.{drop, All};
 ghost use Rattle.std.specs.List.{concat, slice_get};
+ghost use Rattle.gs_bytes.specs.Limits.{most_audio};
 ghost use Rattle.gs_rs.specs.Codeword.{shard_of};
+ghost use Rattle.gs_rtp.specs.Limits.{most_stream_datagram};
 ghost use Rattle.gs_rtp.specs.Stream.{numbers_of};
 ghost use Rattle.gs_rtp.specs.Audio.{IsAudioHead, units_end};
-ghost use Rattle.gs_audio.specs.Sending.{HasParity, HasPushed, last_datagrams, ready_head, ready_place};
+ghost use Rattle.gs_audio.specs.Sending.{HasParityShards, HasPushed, last_datagrams, ready_head, ready_place};
 
 use crate::room::{BLOCK_SHARDS, BLOCK_UNITS};
 use gs_bytes::OutOfMemory;
 use gs_rs::Code;
-use gs_rtp::{AUDIO_BLOCK_UNITS, AudioHead, Settings, write_audio};
+use gs_rtp::{AUDIO_BLOCK_UNITS, AUDIO_PARITY_HEADER_LENGTH, AudioHead, Settings, write_audio};
 use std::alloc::Global;
 use std::marker::Model;
 
@@ -19,8 +22,8 @@ const UNIT_DATAGRAMS: u32 = 1;
 
 const LAST_UNIT_DATAGRAMS: u32 = 3;
 
-/// Makes the datagrams of a session's audio, unit by unit: each unit's own, and behind the last unit of a block those of
-/// its two parity shards. It takes all its memory in `new`.
+/// Makes the datagrams of a session's audio, unit by unit: each unit's own, and behind the last unit of a block those
+/// of its two parity shards. It takes all its memory in `new`.
 #[derive(Drop)]
 pub struct AudioSender {
     settings: Settings,
@@ -33,7 +36,7 @@ pub struct AudioSender {
 impl Model for AudioSender {
     ghost use Rattle.std.specs.Prelude.{vec_len};
     ghost use Rattle.gs_rtp.specs.Stream.{numbers_of};
-    ghost use Rattle.gs_audio.specs.Sending.{Sending, IsSound};
+    ghost use Rattle.gs_audio.specs.Sending.{Sending, IsSendingSound};
 
     ghost Value = { Sending };
 
@@ -44,7 +47,7 @@ impl Model for AudioSender {
       shards = s.shards.items;
     } };
 
-    ghost invariant = { λ s. IsSound s.settings.audio s.pushed s.ready (vec_len s.shards) };
+    ghost invariant = { λ s. IsSendingSound s.settings.audio s.pushed s.ready (vec_len s.shards) };
 }
 
 impl AudioSender {
@@ -62,7 +65,8 @@ impl AudioSender {
         })
     }
 
-    /// Takes the session's next unit, and answers how many datagrams are ready: 1, or 3 behind the last unit of a block.
+    /// Takes the session's next unit, and answers how many datagrams are ready: 1, or 3 behind the last unit of a
+    /// block.
     pub fn push(&mut self, unit: &[u8]) -> u32
         requires size { length unit.now ≡ self.old.settings.audio }
         requires more { self.old.pushed < units_end }
@@ -86,13 +90,14 @@ impl AudioSender {
         LAST_UNIT_DATAGRAMS
     }
 
-    /// Writes a datagram that is ready, by its number, from 0, and answers its length. `out` has 1,456 bytes or more.
+    /// Writes a datagram that is ready, by its number, from 0, and answers its length. `out` has `DATAGRAM_GREATEST`
+    /// bytes or more.
     pub fn datagram(&self, k: u32, out: &mut [u8]) -> usize
         requires number { k < self.now.ready }
-        requires room { 1456 ≤ length out.old }
+        requires room { most_stream_datagram ≤ length out.old }
         ensures datagram { (units : List (List ℕ)) → HasPushed self.now units
             → slice_get (last_datagrams self.now.settings units) k ≡ Some (take result out.new) }
-        ensures most { result ≤ 1424 }
+        ensures most { result ≤ AUDIO_PARITY_HEADER_LENGTH + most_audio }
         ensures rest { drop result out.new ≡ drop result out.old }
     {
         let header = write_audio(&self.head(k), &self.settings, out);
@@ -159,7 +164,7 @@ fn encode(shards: &mut [u8], size: usize)
     requires room { length shards.old ≡ 6 * size }
     ensures units { take (4 * size) shards.new ≡ take (4 * size) shards.old }
     ensures parity { (units : List (List ℕ)) → length units ≡ 4 → All (λ unit. length unit ≡ size) units
-        → take (4 * size) shards.old ≡ concat units → HasParity size units shards.new }
+        → take (4 * size) shards.old ≡ concat units → HasParityShards size units shards.new }
 {
     let (units, parity) = shards.split_at_mut(BLOCK_UNITS * size);
     Code::audio().encode(size, units, parity);

@@ -1,5 +1,5 @@
 -- Lemmas on what is read and written in several calls.
-use Rattle.std.proofs.Common.{◌≡◌, ◌≢◌, ℕ, zero, suc, ◌+◌, ◌-◌, ◌≤◌, Bool, Option, None, Some, Result, Ok, Err, OnErr, List, ◌++◌, length, take, drop}
+use Rattle.std.proofs.Common.{◌≡◌, ◌≢◌, ℕ, zero, suc, ◌+◌, ◌-◌, ◌≤◌, Bool, Option, None, Some, Ok, List, ◌++◌, length, take, drop}
 use Rattle.std.proofs.Common.{length-drop, length-take-le, take-append-drop, refl, sym, ap, ◌∙◌, arith}
 use Rattle.std.proofs.lemmas.List.{drop-drop, take_all, take_at}
 use lib.Seq.{take-add}
@@ -38,6 +38,10 @@ take_more at n xs =
 pub counts_none : (before now n : ℕ) → IsCountedWrite before now (Ok n) → n ≢ 0 → now ≡ before
 counts_none before now zero h some = absurd (some refl)
 counts_none before now (suc n) h some = h
+
+pub KeepsFlag-refl : (a : Option Bool) → KeepsFlag a a
+KeepsFlag-refl None = tt
+KeepsFlag-refl (Some b) = refl
 
 pub KeepsFlag-trans : (a b c : Option Bool) → KeepsFlag a b → KeepsFlag b c → KeepsFlag a c
 KeepsFlag-trans None b c p q = tt

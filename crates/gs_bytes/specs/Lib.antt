@@ -1,10 +1,10 @@
 pub mod Field
 pub mod Limits
-pub mod Link
-pub mod Memory
 pub mod NumberForms
 pub mod Numbers
 pub mod Outside
+pub mod Memory
+pub mod Link
 pub mod Prefix
 pub mod Told
 pub mod Words

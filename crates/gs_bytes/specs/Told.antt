@@ -10,8 +10,8 @@ pub record Told : Type 0 where
   pub met_end : Option Bool
 
 -- what an object tells, by the members that its type has
-abbrev pub told : {X : Type 0} → OutsideOf X → X → Told
-told members object = record {
+abbrev pub outside_told : {X : Type 0} → OutsideOf X → X → Told
+outside_told members object = record {
   left = members.left object;
   taken = members.taken object;
   met_end = members.met_end object;

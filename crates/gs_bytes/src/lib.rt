@@ -48,7 +48,9 @@ pub use big_endian::{
 pub use calls::CallPlan;
 pub use failed::Failed;
 pub use field::field_reads_back;
-pub use limits::{MOST_AUDIO, MOST_GENERATED, MOST_ON_LINK, MOST_UNIT};
+pub use limits::{
+    DURATION_LONG, DURATION_SHORT, MOST_AUDIO, MOST_GENERATED, MOST_ON_LINK, MOST_UNIT,
+};
 pub use link::{Arrived, Link, LinkEntry, Waiting};
 pub use little_endian::{
     read_i64_le, read_u16_le, read_u32_le, read_u64_le, write_i64_le, write_u16_le, write_u32_le,

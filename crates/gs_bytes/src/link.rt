@@ -8,7 +8,7 @@ ghost use Rattle.gs_bytes.specs.declared.link.LinkEntry.{LinkEntry};
 use crate::{Addr, Failed, MOST_ON_LINK, Text};
 
 /// What happened on a link.
-#[derive(Debug, Drop)]
+#[derive(Debug, PartialEq, Eq, Drop)]
 pub enum LinkEntry {
     /// A datagram was put.
     Put { to: Addr, bytes: Text },
@@ -19,7 +19,7 @@ pub enum LinkEntry {
 }
 
 /// A datagram that waits to be taken.
-#[derive(Debug, Drop)]
+#[derive(Debug, PartialEq, Eq, Drop)]
 pub struct Waiting {
     pub from: Addr,
     pub bytes: Text,

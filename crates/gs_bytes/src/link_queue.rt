@@ -53,7 +53,8 @@ impl LinkQueue {
     /// Adds a datagram behind those that wait.
     pub fn give(&mut self, from: Addr, bytes: &[u8]) -> Result<(), OutOfMemory>
         requires { length bytes.now ≤ MOST_ON_LINK }
-        ensures ok { IfOk result (λ _. self.new ≡ record self.old { waiting = self.old.waiting ++ record { from = from; bytes = bytes.now } ∷ [] }) }
+        ensures ok { IfOk result (λ _. self.new
+            ≡ record self.old { waiting = self.old.waiting ++ record { from = from; bytes = bytes.now } ∷ [] }) }
         ensures err { OnErr result (self.new ≡ self.old) }
     {
         let bytes = Text::copy_of(self.alloc, bytes)?;
@@ -63,7 +64,8 @@ impl LinkQueue {
 
     /// Notes that a datagram was put.
     pub fn put(&mut self, to: Addr, bytes: &[u8]) -> Result<(), OutOfMemory>
-        ensures ok { IfOk result (λ _. self.new ≡ record self.old { entries = self.old.entries ++ Put to bytes.now ∷ [] }) }
+        ensures ok { IfOk result (λ _. self.new
+            ≡ record self.old { entries = self.old.entries ++ Put to bytes.now ∷ [] }) }
         ensures err { OnErr result (self.new ≡ self.old) }
     {
         let bytes = Text::copy_of(self.alloc, bytes)?;

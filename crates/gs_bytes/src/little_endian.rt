@@ -67,5 +67,5 @@ pub fn write_i64_le(out: &mut [u8], place: usize, value: i64)
     requires { place + 8 ≤ length out.old }
     ensures { out.new ≡ take place out.old ++ little_bytes 8 (cast_unsigned w64 value) ++ drop (place + 8) out.old }
 {
-    write_u64_le(out, place, value.cast_unsigned());
+    LittleEndian::write_i64(&mut out[place..], value);
 }

@@ -61,7 +61,8 @@ impl Outside for MemSink {
 }
 
 impl Sink for MemSink {
-    ghost use Rattle.std.specs.Prelude.{◌≡◌, ◌<◌, ◌≤◌, ◌↔◌, ◌==◌, IfOk, IsErrOf, IsTrue, OnErr, Some, if◌then◌else◌, length, min};
+    ghost use Rattle.std.specs.Prelude.{◌≡◌, ◌<◌, ◌≤◌, ◌↔◌, ◌==◌, IfOk, IsErrOf, IsTrue, OnErr, Some, if◌then◌else◌};
+    ghost use Rattle.std.specs.Prelude.{length, min};
     ghost use Rattle.std.specs.Io.KnownBytes.{WriteAppends};
     ghost use Rattle.gs_bytes.specs.Memory.{after_call, next_fails, with_fault};
     ghost use Rattle.gs_bytes.specs.Outside.{IsCountedWrite};
@@ -75,7 +76,8 @@ impl Sink for MemSink {
         ensures most { self.new.bytes.most ≡ self.old.bytes.most }
         ensures as_much { IfOk result (λ n. n ≡ min self.old.bytes.most (length piece.now)) }
         ensures fault { IsErrOf result Failed.Fault ↔ IsTrue (next_fails self.old.calls) }
-        ensures calls_ok { IfOk result (λ n. self.new.calls ≡ (if n == 0 then with_fault (after_call self.old.calls) else after_call self.old.calls)) }
+        ensures calls_ok { IfOk result (λ n. self.new.calls
+            ≡ (if n == 0 then with_fault (after_call self.old.calls) else after_call self.old.calls)) }
         ensures calls_err { OnErr result (self.new.calls ≡ after_call self.old.calls) }
     {
         if self.plan.begin() {

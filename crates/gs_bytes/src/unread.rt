@@ -20,7 +20,11 @@ impl Model for Unread {
 
     ghost Value = { Reading };
 
-    ghost view = { λ u. record { left = drop u.at u.bytes.items; taken = take u.at u.bytes.items; met_end = u.met_end } };
+    ghost view = { λ u. record {
+      left = drop u.at u.bytes.items;
+      taken = take u.at u.bytes.items;
+      met_end = u.met_end;
+    } };
 
     ghost invariant = { λ u. u.at ≤ vec_len u.bytes };
 }

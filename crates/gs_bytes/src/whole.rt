@@ -3,7 +3,7 @@
 ghost use Rattle.std.specs.Prelude.{◌≡◌, ◌≢◌, ◌<◌, ◌≤◌, IfOk, IfSome, IsErrOf, OnErr, OnOk, length, take};
 ghost use Rattle.std.specs.Io.KnownBytes.{Appends, Consumes, IsAtEnd, Keeps};
 ghost use Rattle.gs_bytes.specs.Outside.{AppendsPart, KeepsFlag, Rose, SetsFlag};
-ghost use Rattle.gs_bytes.specs.Told.{told, TakesUpTo};
+ghost use Rattle.gs_bytes.specs.Told.{outside_told, TakesUpTo};
 
 use crate::{Failed, Sink, Source, Text};
 use std::alloc::Global;
@@ -44,9 +44,12 @@ pub fn read_up_to<S: Source>(alloc: Global, source: &mut S, most: usize) -> Resu
     ensures left { IfOk result (λ text. Consumes (S.left source.old) (S.left source.new) text) }
     ensures taken { IfOk result (λ text. Appends (S.taken source.old) (S.taken source.new) text) }
     ensures at_end { IfOk result (λ text. length text < most → IsAtEnd (S.left source.new)) }
-    ensures met_end { IfOk result (λ text. length text < most → SetsFlag (S.met_end source.old) (S.met_end source.new)) }
-    ensures not_met { IfOk result (λ text. length text ≡ most → KeepsFlag (S.met_end source.old) (S.met_end source.new)) }
-    ensures err { OnErr result (TakesUpTo most (told S.Outside source.old) (told S.Outside source.new)) }
+    ensures met_end { IfOk result (λ text. length text < most
+        → SetsFlag (S.met_end source.old) (S.met_end source.new)) }
+    ensures not_met { IfOk result (λ text. length text ≡ most
+        → KeepsFlag (S.met_end source.old) (S.met_end source.new)) }
+    ensures err { OnErr result
+        (TakesUpTo most (outside_told S.Outside source.old) (outside_told S.Outside source.new)) }
     ensures err_end { OnErr result (KeepsFlag (S.met_end source.old) (S.met_end source.new)) }
     ensures written { Keeps (S.written source.old) (S.written source.new) }
     ensures never_falls { S.faults source.old ≤ S.faults source.new }

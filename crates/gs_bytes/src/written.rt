@@ -37,7 +37,8 @@ impl Written {
     /// Appends the first bytes of the piece, at most `most` of them, and answers how many.
     pub fn write(&mut self, piece: &[u8]) -> Result<usize, OutOfMemory>
         ensures ok { IfOk result (λ n. n ≡ min self.old.most (length piece.now)) }
-        ensures grows { IfOk result (λ n. self.new ≡ record self.old { written = self.old.written ++ take n piece.now }) }
+        ensures grows { IfOk result (λ n. self.new
+            ≡ record self.old { written = self.old.written ++ take n piece.now }) }
         ensures err { OnErr result (self.new ≡ self.old) }
     {
         let n = self.most.min(piece.len());

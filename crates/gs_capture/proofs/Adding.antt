@@ -6,7 +6,7 @@ use mathlib.Core.List.{IsPrefix}
 use prog.Atomic.{either}
 use Rattle.logbook.specs.Pages.{Cell, cell, keeps, no_nib, step, Moves, Goes}
 use Rattle.gs_tape.specs.Tick.{Tick}
-use Rattle.gs_capture.specs.Histories.{IsCounted, Adds}
+use Rattle.gs_capture.specs.Histories.{AreCounted, Adds}
 use Rattle.gs_capture.proofs.Captured.{prefix_whole}
 
 abbrev pub shown : List Tick → List Tick
@@ -17,7 +17,7 @@ moved xs ys n = Unit {0}
 
 adds_goes : (log v : List Tick) (t : Tick) (old : ℕ) → length v ≡ old → IsPrefix v log
     → (b : Bool) → (length log == old) ≡ b
-    → Goes IsCounted shown moved 0 (v, (no_nib, None)) (λ n. either (n == old) (old + 1) n) (Adds (step 0 old (old + 1) t) (v, (no_nib, None)))
+    → Goes AreCounted shown moved 0 (v, (no_nib, None)) (λ n. either (n == old) (old + 1) n) (Adds (step 0 old (old + 1) t) (v, (no_nib, None)))
     ((length log, true) ∷ (0, true) ∷ []) log
 adds_goes log v t old len pre true is =
     let here : length log ≡ old = grind (arith, nat_tests) in
@@ -45,8 +45,8 @@ adds_goes log v t old len pre false is =
 
 -- whatever the book is, the exchange adds the tick to all that was seen, or finds that the history has gone on
 pub adds_moves : (v : List Tick) (t : Tick) (old : ℕ) → length v ≡ old
-    → Moves IsCounted shown moved 0 (v, (no_nib, None)) (λ n. either (n == old) (old + 1) n) (Adds (step 0 old (old + 1) t) (v, (no_nib, None)))
+    → Moves AreCounted shown moved 0 (v, (no_nib, None)) (λ n. either (n == old) (old + 1) n) (Adds (step 0 old (old + 1) t) (v, (no_nib, None)))
 adds_moves v t old len cs log kept pre away =
     let P : List Cell → Type 0 = λ c. (0 < length c) × ((cell c 0).1 ≡ true)
-    × Goes IsCounted shown moved 0 (v, (no_nib, None)) (λ n. either (n == old) (old + 1) n) (Adds (step 0 old (old + 1) t) (v, (no_nib, None))) c log in
+    × Goes AreCounted shown moved 0 (v, (no_nib, None)) (λ n. either (n == old) (old + 1) n) (Adds (step 0 old (old + 1) t) (v, (no_nib, None))) c log in
     subst P (sym kept) (omega arith, refl, adds_goes log v t old len pre (length log == old) refl)

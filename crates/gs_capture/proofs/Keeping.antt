@@ -1,7 +1,8 @@
 -- Each step on what is published keeps its rule.
 use Rattle.std.proofs.Common.{◌≡◌, ◌≢◌, ◌⊎◌, ℕ, ◌+◌, List, [], ◌∷◌, ◌++◌, length, set, fold, refl, sym, ap, ◌∙◌, subst, arith, ⊎_elim}
-use Rattle.std.proofs.Common.{Option, Some, None, IfSome, false, Result, Ok, Err, MatchResult, is_err}
+use Rattle.std.proofs.Common.{Option, Some, IfSome, false, Result, Ok, Err, MatchResult, is_err}
 use Rattle.std.specs.Arc.{arc_value}
+use Rattle.std.proofs.lemmas.Option.{IfSome_then}
 use mathlib.Core.Option.{some, some-ne-none}
 use mathlib.Core.List.{IsPrefix}
 use lib.ListN.{get_elem?}
@@ -13,12 +14,9 @@ use Rattle.gs_capture.specs.Captures.{Capture, HasAudio}
 use Rattle.gs_capture.specs.Growing.{grown, Follows}
 use Rattle.gs_capture.specs.declared.appended.Appended.{Appended}
 use Rattle.gs_capture.specs.declared.sight.Sight.{Sight}
-use Rattle.gs_capture.specs.Sights.{unseen, IsOneCapture, Knows, Keeps, Publishes, Finds, Sees, Looks, told}
-use Rattle.gs_capture.proofs.Captured.{captured_append, prefix_self, prefix_trans}
-
-if_some : {A : Type 0} {P Q : A → Type 0} (o : Option A) → ((x : A) → P x → Q x) → IfSome o P → IfSome o Q
-if_some (Some x) f h = f x h
-if_some None f h = tt
+use Rattle.gs_capture.specs.Sights.{unseen, IsOneCapture, Knows, Keeps, Publishes, Finds, Sees, Looks, told_sight}
+use Rattle.gs_bytes.proofs.Lists.{prefix_self, prefix_trans}
+use Rattle.gs_capture.proofs.Captured.{captured_append}
 
 -- one seat has another view
 known_set : (c : Capture) (views : List Sight) (seat : ℕ) (w : Sight) → Knows c w → ((j : ℕ) (u : Sight) → get_elem? views j ≡ some u → Knows c u)
@@ -41,7 +39,7 @@ admits c views k = record {
 knows_later : (x y : Capture) (v : Sight) → Follows x y → Knows x v → Knows y v
 knows_later x y v f k = record {
   seen = prefix_trans v.seen x.ticks y.ticks k.seen f.later;
-  told = if_some v.told (λ t of_x. (of_x.0 ∙ sym f.book, of_x.1 ∙ sym f.audio)) k.told;
+  told = IfSome_then v.told k.told (λ t of_x. (of_x.0 ∙ sym f.book, of_x.1 ∙ sym f.audio));
 }
 
 pub publishes : (seat : ℕ) (v : Sight) (x y : Capture) → Follows x y → TurnsAt Keeps seat v x y Publishes
@@ -90,16 +88,16 @@ forks seat v x views k at = record {
       (at_snoc (set views seat v) v u j at_j);
 }
 
-pub merges : (seat : ℕ) (v : Sight) (other : ℕ) (w : Sight) → Merges Keeps seat v other w (told v w) unseen
+pub merges : (seat : ℕ) (v : Sight) (other : ℕ) (w : Sight) → Merges Keeps seat v other w (told_sight v w) unseen
 merges seat v other w x views k at apart there =
-    let theirs : Knows x w = ⊎_elim (λ (t : (other ≡ seat) × (told v w ≡ w)). absurd (apart t.0))
+    let theirs : Knows x w = ⊎_elim (λ (t : (other ≡ seat) × (told_sight v w ≡ w)). absurd (apart t.0))
     (λ (t : (other ≢ seat) × (get_elem? views other ≡ some w)). k.known other w t.1)
-    (at_set views seat other (told v w) w there) in
+    (at_set views seat other (told_sight v w) w there) in
     record {
       captured = k.captured;
       whole = k.whole;
-      known = known_set x (set views seat (told v w)) other unseen (knows_nothing x)
-          (known_set x views seat (told v w) (record { seen = (k.known seat v at).seen; told = theirs.told }) k.known);
+      known = known_set x (set views seat (told_sight v w)) other unseen (knows_nothing x)
+          (known_set x views seat (told_sight v w) (record { seen = (k.known seat v at).seen; told = theirs.told }) k.known);
     }
 
 -- a cell with one seat

@@ -1,14 +1,11 @@
 -- The tick of a number stands one place lower.
-use Rattle.std.proofs.Common.{◌≡◌, ℕ, zero, suc, ◌-◌, ◌<◌, ◌≤◌, List, [], ◌∷◌, map, length, get_or, slice_get, Some, None, option_map}
+use Rattle.std.proofs.Common.{◌≡◌, ℕ, zero, suc, ◌-◌, ◌<◌, ◌≤◌, List, map, length, get_or, slice_get, Some, None, option_map}
 use Rattle.std.proofs.Common.{refl, sym, ap, ◌∙◌, subst, arith}
 use Rattle.std.proofs.lemmas.Option.{slice_get-map, slice_get_read, slice_get_past}
 use Rattle.std.specs.declared.sync.Arc.{Arc}
 use Rattle.std.specs.Arc.{arc_value}
+use Rattle.std.proofs.lemmas.List.{length-map}
 use Rattle.gs_tape.specs.Tick.{Tick, tick_numbered}
-
-pub as_many : {A B : Type 0} (f : A → B) (xs : List A) → length (map f xs) ≡ length xs
-as_many f [] = refl
-as_many f (x ∷ xs) = ap suc (as_many f xs)
 
 pub numbered_is : (ts : List Tick) (n : ℕ) → 0 < n → tick_numbered ts n ≡ slice_get ts (n - 1)
 numbered_is ts zero some = absurd (omega arith)
@@ -29,5 +26,5 @@ module _ {A : Type 0} (items : List (Arc Tick A)) (ticks : List Tick) (are : map
   pub last_is : (count : ℕ) (x : Arc Tick A) (t : Tick) → count ≡ length items → 0 < count → x ≡ get_or items (count - 1) x → t ≡ arc_value x
       → tick_numbered ticks (length ticks) ≡ Some t
   last_is count x t is some at same =
-      let long : count ≡ length ticks = is ∙ sym (as_many arc_value items) ∙ ap length are in
+      let long : count ≡ length ticks = is ∙ sym (length-map items arc_value) ∙ ap length are in
       subst (λ (n : ℕ). tick_numbered ticks n ≡ Some t) long (found_is count x t some (omega (arith, is, some)) at same)

@@ -6,7 +6,7 @@ use Rattle.gs_capture.specs.Captures.{Capture, AreCaptured, Reads, nothing}
 use Rattle.gs_capture.specs.Held.{held_or}
 use Rattle.gs_capture.specs.declared.sight.Sight.{Sight}
 use Rattle.gs_capture.specs.Sights.{IsOneCapture, Sees, viewed}
-use Rattle.gs_capture.proofs.Captured.{prefix_trans}
+use Rattle.gs_bytes.proofs.Lists.{prefix_trans}
 
 -- who was told of a capture finds that one
 one_capture : (o : Option Capture) (y : Capture) → is_some o ≡ true → IfSome o (λ t. IsOneCapture t y) → IsOneCapture (held_or nothing (λ t. t) o) y

@@ -33,12 +33,13 @@ pub record Viewed : Type 0 where
   pub reads : List ℕ
 
 -- before the first append
-abbrev pub opened : Book → ℕ → ℕ → Recorded
-opened capture audio most = record { capture = capture; audio = audio; most = most; appended = []; refused = false }
+abbrev pub opened_capture : Book → ℕ → ℕ → Recorded
+opened_capture capture audio most =
+    record { capture = capture; audio = audio; most = most; appended = []; refused = false }
 
 -- before the first read
-abbrev pub unread : Book → ℕ → Viewed
-unread capture audio = record { capture = capture; audio = audio; read = []; reads = [] }
+abbrev pub unread_capture : Book → ℕ → Viewed
+unread_capture capture audio = record { capture = capture; audio = audio; read = []; reads = [] }
 
 -- each audio unit of the tick has so many bytes
 abbrev pub HasAudio : ℕ → Tick → Type 0

@@ -4,12 +4,12 @@ use Rattle.logbook.specs.Pages.{Cell, Step, View, Book, Named}
 use Rattle.gs_tape.specs.Tick.{Tick}
 
 -- the first word is the length of the history; a second one, which each book has, stays 0
-abbrev pub IsCounted : List Cell → List Tick → Type 0
-IsCounted cells log = cells ≡ (length log, true) ∷ (0, true) ∷ []
+abbrev pub AreCounted : List Cell → List Tick → Type 0
+AreCounted cells log = cells ≡ (length log, true) ∷ (0, true) ∷ []
 
 -- the word of a history
-abbrev pub head_of : Book → Named
-head_of b = record { tracked = true; key = 0; book = b }
+abbrev pub book_head : Book → Named
+book_head b = record { tracked = true; key = 0; book = b }
 
 -- where the word was found as expected, the tick came behind all that had been seen
 abbrev pub Adds : Step Tick → View Tick ℕ → ℕ → View Tick ℕ → Type 0

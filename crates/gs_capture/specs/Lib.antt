@@ -1,3 +1,4 @@
+pub mod Limits
 pub mod Captures
 pub mod Growing
 pub mod Held

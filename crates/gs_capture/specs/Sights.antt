@@ -54,5 +54,5 @@ abbrev pub Looks : Sight → Capture → Capture → Sight → Type 0
 Looks v x y w = (w ≡ record v { seen = y.ticks }) × Finds v y
 
 -- a reader that is told of its capture
-abbrev pub told : Sight → Sight → Sight
-told v w = record v { told = w.told }
+abbrev pub told_sight : Sight → Sight → Sight
+told_sight v w = record v { told = w.told }

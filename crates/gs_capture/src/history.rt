@@ -2,7 +2,7 @@
 //! alone, and lasts for good; in memory there is its length.
 ghost use Rattle.std.specs.Prelude.{◌≡◌, ◌<◌, ◌^◌, ◌++◌, ◌∷◌, [], length, IfSome};
 ghost use Rattle.std.specs.Arc.{arc_value};
-ghost use Rattle.gs_capture.specs.Histories.{head_of};
+ghost use Rattle.gs_capture.specs.Histories.{book_head};
 
 use gs_tape::Tick;
 use logbook::{Gain, Offer, Plain, Play, Rule, Seen, Start, Word};
@@ -14,9 +14,9 @@ pub struct Growing;
 impl Rule<Tick, u64> for Growing {
     ghost use Rattle.std.specs.Prelude.{[]};
     ghost use base.Fml.{ftrue};
-    ghost use Rattle.gs_capture.specs.Histories.{IsCounted};
+    ghost use Rattle.gs_capture.specs.Histories.{AreCounted};
 
-    ghost holds = { λ cells log. IsCounted cells log };
+    ghost holds = { λ cells log. AreCounted cells log };
 
     ghost first = { [] };
 
@@ -64,7 +64,7 @@ pub type Head = Word<Tick, u64, Growing>;
 
 /// A history with no tick.
 pub(crate) fn open() -> (Head, Front)
-    ensures { (result.0 ≡ head_of result.1.book) × (result.1.log ≡ []) }
+    ensures { (result.0 ≡ book_head result.1.book) × (result.1.log ≡ []) }
 {
     let (front, mut first, _second) = Seen::open(Start::alone(), 0, 0);
     (Word::tracked(0, &mut first), front)
@@ -72,7 +72,7 @@ pub(crate) fn open() -> (Head, Front)
 
 /// The front and one more tick. None where the history has gone on without it.
 pub(crate) fn add(head: &Head, front: &Front, count: u64, tick: &Arc<Tick>) -> Option<Front>
-    requires head { head.now ≡ head_of front.now.book }
+    requires head { head.now ≡ book_head front.now.book }
     requires count { (count ≡ length front.now.log) × (count < 2 ^ 62) }
     ensures { IfSome result (λ f. (f.book ≡ front.now.book) × (f.log ≡ front.now.log ++ arc_value tick.now ∷ [])) }
 {

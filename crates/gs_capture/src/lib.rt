@@ -18,6 +18,7 @@
 
 mod appended;
 mod history;
+mod limits;
 mod making;
 mod newest;
 mod published;
@@ -25,6 +26,7 @@ mod recorder;
 mod sight;
 mod viewer;
 
+pub use limits::MOST_VIEWERS;
 pub use making::capture;
 pub use newest::Newest;
 pub use recorder::Recorder;

@@ -3,7 +3,8 @@ ghost use Rattle.std.specs.Prelude.{◌≡◌, ◌≤◌, [], length, drop, IfOk
 ghost use Rattle.std.specs.List.{AllByRecursion};
 ghost use Rattle.left_right.specs.Sides.{view};
 ghost use Rattle.gs_tape.specs.Limits.{most_audio, most_ticks};
-ghost use Rattle.gs_capture.specs.Captures.{opened, unread};
+ghost use Rattle.gs_capture.specs.Captures.{opened_capture, unread_capture};
+ghost use Rattle.gs_capture.specs.Limits.{most_viewers};
 
 use crate::history;
 use crate::published::Published;
@@ -25,10 +26,11 @@ pub fn capture<Rt: Wait>(
     audio: u16,
 ) -> Result<(Recorder, Vec<Viewer>), OutOfMemory>
     requires ticks { (1 ≤ ticks) × (ticks ≤ most_ticks) }
-    requires viewers { (1 ≤ viewers) × (viewers ≤ 16) }
+    requires viewers { (1 ≤ viewers) × (viewers ≤ most_viewers) }
     requires audio { audio ≤ most_audio }
-    ensures recorder { IfOk result (λ made. made.0 ≡ opened made.0.capture audio ticks) }
-    ensures viewers { IfOk result (λ made. (length made.1.items ≡ viewers) × AllByRecursion (λ v. v ≡ unread made.0.capture audio) made.1.items) }
+    ensures recorder { IfOk result (λ made. made.0 ≡ opened_capture made.0.capture audio ticks) }
+    ensures viewers { IfOk result (λ made. (length made.1.items ≡ viewers)
+        × AllByRecursion (λ v. v ≡ unread_capture made.0.capture audio) made.1.items) }
 {
     let all = Vec::with_capacity(alloc, viewers as usize)?;
     let (head, front) = history::open();
@@ -52,7 +54,7 @@ fn writer<Rt: Wait>(
     second: Published,
     viewers: u32,
 ) -> Result<CaptureWriter, OutOfMemory>
-    requires viewers { (1 ≤ viewers) × (viewers ≤ 16) }
+    requires viewers { (1 ≤ viewers) × (viewers ≤ most_viewers) }
     requires empty { (first.ticks ≡ []) × (first.history ≡ []) }
     requires alike { first ≡ second }
     ensures shown { IfOk result (λ w. (w.desk.shown.value ≡ first) × (drop w.behind w.log.items ≡ [])) }
@@ -76,8 +78,10 @@ fn add_viewers(
 ) -> Result<Vec<Viewer>, OutOfMemory>
     requires writer { (view writer.old.desk.place).told ≡ Some writer.old.desk.shown.value }
     requires all { all.items ≡ [] }
-    ensures writer { (writer.new.desk.shown.value ≡ writer.old.desk.shown.value) × (drop writer.new.behind writer.new.log.items ≡ drop writer.old.behind writer.old.log.items) }
-    ensures viewers { IfOk result (λ vs. (length vs.items ≡ viewers) × AllByRecursion (λ v. v ≡ unread writer.old.desk.shown.value.book writer.old.desk.shown.value.audio) vs.items) }
+    ensures writer { (writer.new.desk.shown.value ≡ writer.old.desk.shown.value)
+        × (drop writer.new.behind writer.new.log.items ≡ drop writer.old.behind writer.old.log.items) }
+    ensures viewers { IfOk result (λ vs. (length vs.items ≡ viewers) × AllByRecursion (λ v.
+        v ≡ unread_capture writer.old.desk.shown.value.book writer.old.desk.shown.value.audio) vs.items) }
 {
     let mut made = 0;
     while made < viewers {
@@ -90,8 +94,11 @@ fn add_viewers(
 // A new viewer, which is told of its capture.
 fn viewer(writer: &mut CaptureWriter) -> Result<Viewer, OutOfMemory>
     requires { (view writer.old.desk.place).told ≡ Some writer.old.desk.shown.value }
-    ensures writer { (writer.new.desk.shown ≡ writer.old.desk.shown) × (writer.new.log ≡ writer.old.log) × (writer.new.behind ≡ writer.old.behind) × ((view writer.new.desk.place).told ≡ Some writer.old.desk.shown.value) }
-    ensures viewer { IfOk result (λ v. v ≡ unread writer.old.desk.shown.value.book writer.old.desk.shown.value.audio) }
+    ensures writer { (writer.new.desk.shown ≡ writer.old.desk.shown) × (writer.new.log ≡ writer.old.log)
+        × (writer.new.behind ≡ writer.old.behind)
+        × ((view writer.new.desk.place).told ≡ Some writer.old.desk.shown.value) }
+    ensures viewer { IfOk result
+        (λ v. v ≡ unread_capture writer.old.desk.shown.value.book writer.old.desk.shown.value.audio) }
 {
     let mut reader = writer.factory().reader()?;
     reader.learn::<Telling>(writer.tell::<Telling>());

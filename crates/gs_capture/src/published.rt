@@ -32,7 +32,12 @@ impl Model for Published {
 
     ghost Value = { Capture };
 
-    ghost view = { λ p. record { book = p.front.book; audio = p.audio; ticks = map arc_value p.ticks.items; history = p.front.log } };
+    ghost view = { λ p. record {
+      book = p.front.book;
+      audio = p.audio;
+      ticks = map arc_value p.ticks.items;
+      history = p.front.log;
+    } };
 }
 
 impl Absorb<Appended> for Published {

@@ -5,7 +5,7 @@ ghost use mathlib.Core.List.{IsPrefix};
 ghost use Rattle.left_right.specs.Sides.{view};
 ghost use Rattle.gs_capture.specs.Captures.{HasAudio, Reads};
 ghost use Rattle.gs_capture.specs.Growing.{grown, Follows};
-ghost use Rattle.gs_capture.specs.Histories.{head_of};
+ghost use Rattle.gs_capture.specs.Histories.{book_head};
 
 use crate::appended::Appended;
 use crate::history::{Head, add};
@@ -35,13 +35,23 @@ impl Model for Recorder {
     ghost use Rattle.std.specs.Prelude.{◌≡◌, [], false, true, drop, is_some};
     ghost use Rattle.gs_capture.specs.Captures.{Recorded, nothing};
     ghost use Rattle.gs_capture.specs.Held.{held_or};
-    ghost use Rattle.gs_capture.specs.Histories.{head_of};
+    ghost use Rattle.gs_capture.specs.Histories.{book_head};
 
     ghost Value = { Recorded };
 
-    ghost view = { λ r. record { capture = (held_or nothing (λ w. w.desk.shown.value) r.writer).book; audio = (held_or nothing (λ w. w.desk.shown.value) r.writer).audio; most = r.ticks; appended = (held_or nothing (λ w. w.desk.shown.value) r.writer).ticks; refused = r.refused } };
+    ghost view = { λ r. record {
+      capture = (held_or nothing (λ w. w.desk.shown.value) r.writer).book;
+      audio = (held_or nothing (λ w. w.desk.shown.value) r.writer).audio;
+      most = r.ticks;
+      appended = (held_or nothing (λ w. w.desk.shown.value) r.writer).ticks;
+      refused = r.refused;
+    } };
 
-    ghost invariant = { λ r. (is_some r.writer ≡ true) × (r.head ≡ head_of (held_or nothing (λ w. w.desk.shown.value) r.writer).book) × ((held_or nothing (λ w. w.desk.shown.value) r.writer).history ≡ (held_or nothing (λ w. w.desk.shown.value) r.writer).ticks) × (r.refused ≡ false → held_or [] (λ w. drop w.behind w.log.items) r.writer ≡ []) };
+    ghost invariant = { λ r. (is_some r.writer ≡ true)
+        × (r.head ≡ book_head (held_or nothing (λ w. w.desk.shown.value) r.writer).book)
+        × ((held_or nothing (λ w. w.desk.shown.value) r.writer).history
+        ≡ (held_or nothing (λ w. w.desk.shown.value) r.writer).ticks) × (r.refused ≡ false
+        → held_or [] (λ w. drop w.behind w.log.items) r.writer ≡ []) };
 }
 
 // Publishes what is pending.
@@ -49,9 +59,15 @@ pub(crate) fn publish<Rt: Wait>(
     writer: CaptureWriter,
     rt: &Rt,
 ) -> (CaptureWriter, Result<(), AllocError>)
-    requires { Follows writer.desk.shown.value (fold grown writer.desk.shown.value (drop writer.behind writer.log.items)) }
-    ensures ok { OnOk result.1 ((result.0.desk.shown.value ≡ fold grown writer.desk.shown.value (drop writer.behind writer.log.items)) × (drop result.0.behind result.0.log.items ≡ [])) }
-    ensures told { OnOk result.1 (view result.0.desk.place ≡ record (view writer.desk.place) { told = Some result.0.desk.shown.value; seen = result.0.desk.shown.value.ticks }) }
+    requires { Follows writer.desk.shown.value
+        (fold grown writer.desk.shown.value (drop writer.behind writer.log.items)) }
+    ensures ok { OnOk result.1 ((result.0.desk.shown.value ≡ fold grown writer.desk.shown.value
+        (drop writer.behind writer.log.items)) × (drop result.0.behind result.0.log.items ≡ [])) }
+    ensures told { OnOk result.1 (view result.0.desk.place
+        ≡ record (view writer.desk.place) {
+          told = Some result.0.desk.shown.value;
+          seen = result.0.desk.shown.value.ticks;
+        }) }
     ensures err { OnErr result.1 (result.0.desk.shown.value ≡ writer.desk.shown.value) }
 {
     writer.publish_as::<Publishing, Rt>(rt)
@@ -65,9 +81,16 @@ fn append<Rt: Wait>(
     tick: Arc<Tick>,
 ) -> (CaptureWriter, Result<(), OutOfMemory>)
     requires pending { drop writer.behind writer.log.items ≡ [] }
-    requires history { (head.now ≡ head_of writer.desk.shown.value.book) × (writer.desk.shown.value.history ≡ writer.desk.shown.value.ticks) }
-    requires tick { ((arc_value tick).number ≡ length writer.desk.shown.value.ticks + 1) × HasAudio writer.desk.shown.value.audio (arc_value tick) }
-    ensures ok { OnOk result.1 ((result.0.desk.shown.value ≡ record writer.desk.shown.value { ticks = writer.desk.shown.value.ticks ++ arc_value tick ∷ []; history = writer.desk.shown.value.ticks ++ arc_value tick ∷ [] }) × (drop result.0.behind result.0.log.items ≡ [])) }
+    requires history { (head.now ≡ book_head writer.desk.shown.value.book)
+        × (writer.desk.shown.value.history ≡ writer.desk.shown.value.ticks) }
+    requires tick { ((arc_value tick).number ≡ length writer.desk.shown.value.ticks + 1)
+        × HasAudio writer.desk.shown.value.audio (arc_value tick) }
+    ensures ok { OnOk result.1 ((result.0.desk.shown.value
+        ≡ record writer.desk.shown.value {
+          ticks = writer.desk.shown.value.ticks ++ arc_value tick ∷ [];
+          history = writer.desk.shown.value.ticks ++ arc_value tick ∷ [];
+        })
+        × (drop result.0.behind result.0.log.items ≡ [])) }
     ensures err { OnErr result.1 (result.0.desk.shown.value ≡ writer.desk.shown.value) }
 {
     // The recorder alone has the head, so the history is as long as it left it.
@@ -85,8 +108,15 @@ fn append<Rt: Wait>(
 impl Recorder {
     pub(crate) fn new(writer: CaptureWriter, head: Head, ticks: u32) -> Recorder
         requires pending { drop writer.behind writer.log.items ≡ [] }
-        requires history { (head ≡ head_of writer.desk.shown.value.book) × (writer.desk.shown.value.history ≡ writer.desk.shown.value.ticks) }
-        ensures { result ≡ record { capture = writer.desk.shown.value.book; audio = writer.desk.shown.value.audio; most = ticks; appended = writer.desk.shown.value.ticks; refused = false } }
+        requires history { (head ≡ book_head writer.desk.shown.value.book)
+            × (writer.desk.shown.value.history ≡ writer.desk.shown.value.ticks) }
+        ensures { result ≡ record {
+          capture = writer.desk.shown.value.book;
+          audio = writer.desk.shown.value.audio;
+          most = ticks;
+          appended = writer.desk.shown.value.ticks;
+          refused = false;
+        } }
     {
         Recorder {
             writer: Some(writer),

@@ -64,9 +64,9 @@ impl Split<Sight> for Telling {
 }
 
 impl Join<Sight> for Telling {
-    ghost use Rattle.gs_capture.specs.Sights.{told, unseen};
+    ghost use Rattle.gs_capture.specs.Sights.{told_sight, unseen};
 
-    ghost both = { told };
+    ghost both = { told_sight };
 
     ghost spent = { unseen };
 }

@@ -1,7 +1,7 @@
 ghost use Rattle.std.specs.Prelude.{◌≡◌, ◌≤◌, [], false, IfOk, IfSome};
 ghost use Rattle.std.specs.Arc.{arc_value};
 ghost use Rattle.std.specs.List.{AllByRecursion};
-ghost use Rattle.gs_capture.specs.Captures.{unread};
+ghost use Rattle.gs_capture.specs.Captures.{unread_capture};
 
 use super::*;
 use gs_bytes::OutOfMemory;
@@ -59,8 +59,8 @@ fn has_first<R: Wait>(rt: &R, viewer: &mut Viewer, last: u32) -> bool
     all
 }
 
-// Reads until the tick of that number was seen. Answers how many reads were wrong: a tick that isn't above the one before, or
-// a list without the ticks that were read before.
+// Reads until the tick of that number was seen. Answers how many reads were wrong: a tick that isn't above the one
+// before, or a list without the ticks that were read before.
 fn read_until<R: Wait>(rt: &R, mut viewer: Viewer, count: u32) -> (u32, Viewer)
     ensures { result.1.capture ≡ viewer.capture }
 {
@@ -141,7 +141,8 @@ fn record_and_read<R: Threads + Wait + Sync>(
     let (_, wrong) = join(
         rt,
         || -> ()
-            requires { (recorder.now.appended ≡ []) × (recorder.now.refused ≡ false) × (count ≤ recorder.now.most) × (recorder.now.most ≤ 1048576) }
+            requires { (recorder.now.appended ≡ []) × (recorder.now.refused ≡ false) × (count ≤ recorder.now.most)
+                × (recorder.now.most ≤ 1048576) }
         { append_all(rt, alloc, recorder, count) },
         || read_by_eight(rt, viewers, count),
     );
@@ -205,7 +206,7 @@ fn look<R: Wait>(
 }
 
 fn last_of(recorder: &Recorder, mut viewers: Vec<Viewer>) -> Option<Viewer>
-    requires { AllByRecursion (λ v. v ≡ unread recorder.now.capture 0) viewers.items }
+    requires { AllByRecursion (λ v. v ≡ unread_capture recorder.now.capture 0) viewers.items }
     ensures { IfSome result (λ v. v.capture ≡ recorder.now.capture) }
 {
     viewers.pop()

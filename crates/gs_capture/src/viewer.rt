@@ -68,10 +68,13 @@ fn read<Rt: Wait>(rt: &Rt, reader: SightReader) -> SightReading
 // Looks until it finds as many ticks as `published` has, another state of the capture.
 #[tactic(auto, using(crate::proofs::Reading::one_book))]
 fn look<Rt: Wait>(rt: &Rt, mut reader: SightReader, published: &Published) -> SightReader
-    requires one { (is_some (view reader.place).told ≡ true) × ((viewed (view reader.place)).capture ≡ published.now.book) }
+    requires one { (is_some (view reader.place).told ≡ true)
+        × ((viewed (view reader.place)).capture ≡ published.now.book) }
     requires whole { published.now.history ≡ published.now.ticks }
-    ensures seen { IsPrefix (view reader.place).seen (view result.place).seen × IsPrefix published.now.ticks (view result.place).seen }
-    ensures same { ((view result.place).told ≡ (view reader.place).told) × ((view result.place).reads ≡ (view reader.place).reads) }
+    ensures seen { IsPrefix (view reader.place).seen (view result.place).seen
+        × IsPrefix published.now.ticks (view result.place).seen }
+    ensures same { ((view result.place).told ≡ (view reader.place).told)
+        × ((view result.place).reads ≡ (view reader.place).reads) }
 {
     for _ in rt.forever() {
         match reader.enter_as::<Looking>() {
@@ -112,7 +115,8 @@ fn read_numbered<Rt: Wait>(
     requires told { is_some (view reader.place).told ≡ true }
     ensures told { is_some (view result.0.place).told ≡ true }
     ensures read { Reads (viewed (view reader.place)) (viewed (view result.0.place)) }
-    ensures tick { IfOk result.1 (λ found. option_map arc_value found ≡ tick_numbered (view result.0.place).seen number) }
+    ensures tick { IfOk result.1 (λ found. option_map arc_value found
+        ≡ tick_numbered (view result.0.place).seen number) }
 {
     let reading = read(rt, reader);
     let found = reading.get().numbered(number);
@@ -122,7 +126,8 @@ fn read_numbered<Rt: Wait>(
 // Looks until it finds what was published, and then reads.
 #[tactic(auto, using(crate::proofs::Reading::reads_behind))]
 fn read_behind<Rt: Wait>(rt: &Rt, reader: SightReader, published: &Published) -> SightReader
-    requires one { (is_some (view reader.place).told ≡ true) × ((viewed (view reader.place)).capture ≡ published.now.book) }
+    requires one { (is_some (view reader.place).told ≡ true)
+        × ((viewed (view reader.place)).capture ≡ published.now.book) }
     requires whole { published.now.history ≡ published.now.ticks }
     ensures told { is_some (view result.place).told ≡ true }
     ensures read { Reads (viewed (view reader.place)) (viewed (view result.place)) }
@@ -164,7 +169,8 @@ impl Viewer {
         newest
     }
 
-    /// Reads the list and answers its tick of that number, from 1: `None` exactly where the number is 0 or above the list.
+    /// Reads the list and answers its tick of that number, from 1: `None` exactly where the number is 0 or above the
+    /// list.
     pub fn tick<Rt: Wait>(&mut self, rt: &Rt, number: u32) -> Result<Option<Arc<Tick>>, OutOfMemory>
         ensures read { Reads self.old self.new }
         ensures tick { IfOk result (λ found. option_map arc_value found ≡ tick_numbered self.new.read number) }

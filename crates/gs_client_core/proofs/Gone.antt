@@ -8,7 +8,7 @@ use Rattle.gs_bytes.specs.declared.out_of_memory.OutOfMemory.{OutOfMemory}
 use Rattle.gs_enet.specs.declared.peer.Peer.{Peer}
 use Rattle.gs_enet.specs.Record.{PeerRecord}
 use Rattle.gs_enet.specs.Steps.{can_send}
-use Rattle.gs_enet.specs.Standing.{StandsFor}
+use Rattle.gs_enet.specs.Standing.{IsPeerOf}
 use Rattle.gs_client_core.specs.declared.asker.Owed.{Owed}
 use Rattle.gs_client_core.specs.Owed.{request_channel, asked, all_asked, going, gone_by, SendsFront, HaveGone, HaveGoneBefore, SendsOwed}
 
@@ -37,15 +37,15 @@ going-none r (owed ∷ rest) (inr cannot) = cond-false (can_send r request_chann
 
 -- so many went so far
 pub record HaveGoneOn (r : PeerRecord) (old : List Owed) (count : ℕ) (peer : Peer) : Type 0 where
-  pub stands : StandsFor peer (all_asked (take count old) r)
+  pub stands : IsPeerOf peer (all_asked (take count old) r)
   pub others : going r old ≡ count + going (all_asked (take count old) r) (drop count old)
 
-pub gone-first : (r : PeerRecord) (old : List Owed) (peer : Peer) → StandsFor peer r → HaveGoneOn r old 0 peer
+pub gone-first : (r : PeerRecord) (old : List Owed) (peer : Peer) → IsPeerOf peer r → HaveGoneOn r old 0 peer
 gone-first r old peer stands = record { stands = stands; others = omega arith }
 
 pub gone-more : (r : PeerRecord) (old : List Owed) (count : ℕ) (before after : Peer) → HaveGoneOn r old count before → 1 ≤ length (drop count old)
     → can_send (all_asked (take count old) r) request_channel ≡ true
-    → StandsFor after (all_asked (take 1 (drop count old)) (all_asked (take count old) r)) → HaveGoneOn r old (suc count) after
+    → IsPeerOf after (all_asked (take 1 (drop count old)) (all_asked (take count old) r)) → HaveGoneOn r old (suc count) after
 gone-more r old count before after gone some can stands =
     let so_far = all_asked (take count old) r in
     let more = asked-more count old r in
@@ -54,20 +54,20 @@ gone-more r old count before after gone some can stands =
     ∙ ap (λ (x : PeerRecord). suc (going x (drop 1 (drop count old)))) more
     ∙ ap (λ (l : List Owed). suc (going (all_asked (take (suc count) old) r) l)) (drop-more count old) in
     record {
-      stands = subst (λ (x : PeerRecord). StandsFor after x) more stands;
+      stands = subst (λ (x : PeerRecord). IsPeerOf after x) more stands;
       others = omega (arith, gone.others, next);
     }
 
 pub gone-all : (r : PeerRecord) (old new : List Owed) (count : ℕ) (before after : Peer) → HaveGoneOn r old count before → new ≡ drop count old
     → (drop count old ≡ []) ⊎ (can_send (all_asked (take count old) r) request_channel ≡ false)
-    → StandsFor after (all_asked (take count old) r) → (count ≡ going r old) × HaveGone r old new count after
+    → IsPeerOf after (all_asked (take count old) r) → (count ≡ going r old) × HaveGone r old new count after
 gone-all r old new count before after gone rest stop stands =
     let none = going-none (all_asked (take count old) r) (drop count old) stop in
     (omega (arith, gone.others, none), record { rest = rest; stands = stands })
 
 pub gone-before : (r : PeerRecord) (old new : List Owed) (count : ℕ) (before after : Peer) → HaveGoneOn r old count before → new ≡ drop count old
     → 1 ≤ length (drop count old) → can_send (all_asked (take count old) r) request_channel ≡ true
-    → StandsFor after (all_asked (take count old) r) → HaveGoneBefore r old new after
+    → IsPeerOf after (all_asked (take count old) r) → HaveGoneBefore r old new after
 gone-before r old new count before after gone rest some can stands =
     let one = going-one (all_asked (take count old) r) (drop count old) some can in
     record {
@@ -92,8 +92,8 @@ more-gone r old xs new count after peer later false bad next so_far fewer gone s
 more-gone r old xs new count after peer later true is next so_far fewer gone sends =
     let size : length xs ≡ length (drop count old) = ap (λ (l : List Owed). length l) so_far in
     let here = all_asked (take count old) r in
-    let stands : StandsFor later (all_asked (take 1 (drop count old)) here) =
-    subst (λ (l : List Owed). StandsFor later (all_asked (take 1 l) here)) so_far sends.1 in
+    let stands : IsPeerOf later (all_asked (take 1 (drop count old)) here) =
+    subst (λ (l : List Owed). IsPeerOf later (all_asked (take 1 l) here)) so_far sends.1 in
     subst (λ (k : ℕ). HaveGoneOn r old k later) (sym next) (gone-more r old count peer later gone (omega (arith, size, fewer)) sends.0 stands)
 
 -- none was left, or the side takes none

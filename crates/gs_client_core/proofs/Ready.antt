@@ -17,7 +17,7 @@ use Rattle.gs_frames.proofs.SettledUp.{left-from, left-says, left-not_from, left
 use Rattle.gs_frames.proofs.HandedGrows.{handed_exactly}
 use Rattle.gs_frames.proofs.Taken.{taken-some, taken-none}
 use Rattle.gs_fecqueue.specs.Standing.{is_at_hand}
-use Rattle.gs_client_core.specs.Steps.{IsReady, AreReady}
+use Rattle.gs_client_core.specs.Steps.{IsHandReady, AreReady}
 
 -- a frame above the settled ones isn't left
 open_above : (c : ClientSettings) (rs : List Received) (f : ℕ) → settled c rs < f → is_left c.window rs f ≡ false
@@ -94,7 +94,7 @@ ready_hand c came bytes f held has above e =
     ]
 
 one_ready : (c : ClientSettings) (came : List Arrival) (bytes : List ℕ) (h : Handed) → HasWindow c → IsToHand c (Datagram bytes ∷ came) h
-    → nat_lt (settled c (taken c came)) h.frame ≡ true → IsReady c (Datagram bytes ∷ came) h
+    → nat_lt (settled c (taken c came)) h.frame ≡ true → IsHandReady c (Datagram bytes ∷ came) h
 one_ready c came bytes h has is new =
     let held : Frame = record { kind = h.kind; unit = h.unit } in
     record {

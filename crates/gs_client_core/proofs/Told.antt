@@ -26,7 +26,7 @@ use Rattle.gs_depack.specs.declared.depack.Depack.{Depack}
 use Rattle.gs_depack.specs.Depack.{Handing}
 use Rattle.gs_depack.proofs.Standing.{nothing-to_note, front-same}
 use Rattle.gs_depack.proofs.Arrivals.{changes_nothing, completes_frame}
-use Rattle.gs_client_core.specs.Steps.{IsTold, IsNowWhole}
+use Rattle.gs_client_core.specs.Steps.{IsArrivalTold, IsNowWhole}
 
 -- ---- what moves nothing
 
@@ -66,7 +66,7 @@ asks_nothing c came bytes e = none_left c came bytes (received c.stream bytes) r
 
 -- ---- no frame became complete
 
-pub unnoted : (d : Depack) (c : ClientSettings) (came : List Arrival) (bytes : List ℕ) (moved : Option Moved) → IsTold d c came bytes moved
+pub unnoted : (d : Depack) (c : ClientSettings) (came : List Arrival) (bytes : List ℕ) (moved : Option Moved) → IsArrivalTold d c came bytes moved
     → ((f : ℕ) → complete c (taken c (Datagram bytes ∷ came)) f ≡ complete c (taken c came) f)
     → Handing d c (Datagram bytes ∷ came) None (handed c came)
 unnoted d c came bytes None told same =
@@ -86,7 +86,7 @@ unnoted d c came bytes (Some moved) told same =
     nothing-to_note d c (Datagram bytes ∷ came) f (handed c came) told.handing (same f ∙ complete-none c rs f (NoneOf-above rs f above))
 
 -- none was made whole
-pub not_whole : (d : Depack) (c : ClientSettings) (came : List Arrival) (bytes : List ℕ) (moved : Option Moved) → IsTold d c came bytes moved
+pub not_whole : (d : Depack) (c : ClientSettings) (came : List Arrival) (bytes : List ℕ) (moved : Option Moved) → IsArrivalTold d c came bytes moved
     → (verdict c came bytes ≡ FrameWhole → ⊥) → Handing d c (Datagram bytes ∷ came) None (handed c came)
 not_whole d c came bytes moved told other = unnoted d c came bytes moved told (λ f. only_frame_whole c came bytes f other)
 
@@ -138,7 +138,7 @@ now_whole c came bytes has e =
 
 -- its image isn't a frame's
 pub whole-unread : (d : Depack) (c : ClientSettings) (came : List Arrival) (bytes : List ℕ) (moved : Option Moved) (is : IsNowWhole c came bytes)
-    → IsTold d c came bytes moved → frame_of (payload_of c.stream) is.at.image ≡ None
+    → IsArrivalTold d c came bytes moved → frame_of (payload_of c.stream) is.at.image ≡ None
     → Handing d c (Datagram bytes ∷ came) None (handed c came)
 whole-unread d c came bytes moved is told none =
     let now = taken c (Datagram bytes ∷ came) in
@@ -150,7 +150,7 @@ whole-unread d c came bytes moved is told none =
       | inr other ↦ only_own_frame c came bytes is.at.r f is.at.is_received (λ e. other (sym e))
     ])
 
-to_note : (d : Depack) (c : ClientSettings) (came : List Arrival) (bytes : List ℕ) (moved : Option Moved) (r : Received) → IsTold d c came bytes moved
+to_note : (d : Depack) (c : ClientSettings) (came : List Arrival) (bytes : List ℕ) (moved : Option Moved) (r : Received) → IsArrivalTold d c came bytes moved
     → received c.stream bytes ≡ Some r → 1 ≤ r.head.frame → complete c (taken c came) r.head.frame ≡ None
     → is_some (complete c (taken c (Datagram bytes ∷ came)) r.head.frame) ≡ true
     → Handing d c (Datagram bytes ∷ came) (Some r.head.frame) (handed c came)
@@ -164,7 +164,7 @@ to_note d c came bytes (Some moved) r told is least none some =
 
 -- its image is a frame's, which is noted
 pub whole-noted : (d a : Depack) (c : ClientSettings) (came : List Arrival) (bytes : List ℕ) (moved : Option Moved) (frame kind : ℕ) (held : Frame)
-    (is : IsNowWhole c came bytes) → frame ≡ is.at.r.head.frame → IsTold d c came bytes moved
+    (is : IsNowWhole c came bytes) → frame ≡ is.at.r.head.frame → IsArrivalTold d c came bytes moved
     → frame_of (payload_of c.stream) is.at.image ≡ Some held → held.kind ≡ kind
     → ((given : List Handed) (h : Frame) → Handing d c (Datagram bytes ∷ came) (Some frame) given
     → IsComplete c (taken c (Datagram bytes ∷ came)) frame h → h.kind ≡ kind → Handing a c (Datagram bytes ∷ came) None given)

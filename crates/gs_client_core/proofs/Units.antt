@@ -13,7 +13,7 @@ use Rattle.gs_frames.specs.Handed.{Handed}
 use Rattle.gs_frames.proofs.Counting.{complete-is}
 use Rattle.gs_client_core.specs.declared.given.Given.{Given}
 use Rattle.gs_client_core.specs.Given.{frames_of, handed_as, handed_at, given_frames, in_places, AreGiven}
-use Rattle.gs_client_core.specs.Steps.{IsReady, AreReady, PlaceGives}
+use Rattle.gs_client_core.specs.Steps.{IsHandReady, AreReady, PlaceGives}
 
 -- ---- a complete frame's image
 
@@ -81,9 +81,9 @@ fill c came n (h ∷ hs) (p ∷ ps) (u ∷ us) ready gives e =
     let both : p ∷ ps ≡ Some h.frame ∷ rest = e in
     let first : p ≡ Some h.frame = cc in
     let others : ps ≡ rest = cc in
-    let this = gives.0.some h (All-head (IsReady c came) h hs ready) first in
+    let this = gives.0.some h (All-head (IsHandReady c came) h hs ready) first in
     ap (λ (x : Option Handed). x ∷ map handed_at us) this
-    ∙ ap (λ (l : List (Option Handed)). Some h ∷ l) (fill c came n hs ps us (All-tail (IsReady c came) h hs ready) gives.1 others)
+    ∙ ap (λ (l : List (Option Handed)). Some h ∷ l) (fill c came n hs ps us (All-tail (IsHandReady c came) h hs ready) gives.1 others)
 
 -- of four places
 pub four_units : (c : ClientSettings) (came : List Arrival) (hs : List Handed) (a b d e : Option ℕ) (u v x y : Option Given) → AreReady c came hs

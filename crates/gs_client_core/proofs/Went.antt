@@ -1,6 +1,7 @@
 -- One thing that is owed: what its message is, and whether it went.
 use Rattle.std.proofs.Common.{◌≡◌, ◌≤◌, ℕ, Bool, true, false, ◌&&◌, not, List, [], ◌∷◌, ◌++◌, length, take, drop, refl, sym, ap, ◌∙◌, arith, inr, subst, get_or}
 use Rattle.std.specs.Prelude.{Ok, Err}
+use Rattle.std.proofs.lemmas.Bool.{and_left}
 use Rattle.gs_control.specs.declared.message.Message.{Message}
 use Rattle.gs_control.specs.Message.{bytes_of}
 use Rattle.gs_enet.specs.declared.peer.Peer.{Peer}
@@ -8,7 +9,7 @@ use Rattle.gs_enet.specs.declared.send_error.SendError.{SendError}
 use Rattle.gs_enet.specs.declared.send_error.SendError.TheVariants.{NotOpen, WindowFull, OutOfMemory}
 use Rattle.gs_enet.specs.Record.{PeerRecord}
 use Rattle.gs_enet.specs.Steps.{is_open, is_full, can_send}
-use Rattle.gs_enet.specs.Standing.{StandsFor}
+use Rattle.gs_enet.specs.Standing.{IsPeerOf}
 use Rattle.gs_enet.specs.Outcomes.{Sends}
 use Rattle.gs_client_core.specs.declared.asker.Owed.{Owed}
 use Rattle.gs_client_core.specs.Owed.{request_channel, message_of, owed_message, all_asked, SendsOne, SendsFront}
@@ -26,10 +27,6 @@ message_bytes owed message old new n is size written =
     ∙ front (bytes_of message) (drop n old)
     ∙ ap bytes_of is
 
-shut_off : (a b : Bool) → a ≡ false → (a && b) ≡ false
-shut_off false b is = refl
-shut_off true b is = cc
-
 filled : (a b : Bool) → a ≡ true → b ≡ true → (a && not b) ≡ false
 filled true true is full = refl
 filled true false is full = cc
@@ -37,14 +34,14 @@ filled false b is full = cc
 
 -- the side takes none
 pub refused : (r : PeerRecord) (bytes : List ℕ) (e : SendError) (new : Peer) → (e ≡ OutOfMemory → ⊥) → Sends r request_channel bytes (Err e) new
-    → (can_send r request_channel ≡ false) × StandsFor new r
-refused r bytes NotOpen new other sends = (shut_off (is_open r.state) (not (is_full r request_channel)) sends.0, sends.1)
+    → (can_send r request_channel ≡ false) × IsPeerOf new r
+refused r bytes NotOpen new other sends = (and_left (is_open r.state) (not (is_full r request_channel)) sends.0, sends.1)
 refused r bytes WindowFull new other sends = (filled (is_open r.state) (is_full r request_channel) sends.0 sends.1, sends.2)
 refused r bytes OutOfMemory new other sends = absurd (other refl)
 
 -- there was no memory for it
 pub unsent : (r : PeerRecord) (bytes : List ℕ) (e : SendError) (new : Peer) → e ≡ OutOfMemory → Sends r request_channel bytes (Err e) new
-    → (can_send r request_channel ≡ true) × StandsFor new r
+    → (can_send r request_channel ≡ true) × IsPeerOf new r
 unsent r bytes OutOfMemory new is sends = sends
 unsent r bytes NotOpen new is sends = cc
 unsent r bytes WindowFull new is sends = cc
@@ -59,7 +56,7 @@ pub front-went : (r : PeerRecord) (owed : Owed) (old : List Owed) (peer : Peer) 
     → SendsOne r (owed_message owed) (Ok went) peer → SendsFront r old (Ok went) peer
 front-went r owed old peer false is some here sends = cc
 front-went r owed old peer true is some here sends =
-    (sends.0, subst (λ (l : List Owed). StandsFor peer (all_asked l r)) (sym (first-one owed old some here)) sends.1)
+    (sends.0, subst (λ (l : List Owed). IsPeerOf peer (all_asked l r)) (sym (first-one owed old some here)) sends.1)
 
 pub front-stays : (r : PeerRecord) (owed : Owed) (old : List Owed) (peer : Peer) (went : Bool) → went ≡ false
     → SendsOne r (owed_message owed) (Ok went) peer → SendsFront r old (Ok went) peer

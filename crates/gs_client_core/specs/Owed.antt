@@ -8,7 +8,7 @@ use Rattle.gs_control.specs.Message.{bytes_of}
 use Rattle.gs_enet.specs.declared.peer.Peer.{Peer}
 use Rattle.gs_enet.specs.Record.{PeerRecord}
 use Rattle.gs_enet.specs.Steps.{can_send, with_message}
-use Rattle.gs_enet.specs.Standing.{StandsFor}
+use Rattle.gs_enet.specs.Standing.{IsPeerOf}
 use Rattle.gs_client_core.specs.declared.asker.Owed.{Owed}
 use Rattle.gs_client_core.specs.declared.asker.Owed.TheVariants.{Lost, Idr}
 
@@ -41,9 +41,9 @@ going r (owed ∷ rest) = if can_send r request_channel then suc (going (asked o
 -- one message went, or the side takes none, or there was no memory
 abbrev pub SendsOne : PeerRecord → List ℕ → Result Bool OutOfMemory → Peer → Type 0
 SendsOne r bytes (Ok true) new = (can_send r request_channel ≡ true)
-    × StandsFor new (with_message request_channel bytes r)
-SendsOne r bytes (Ok false) new = (can_send r request_channel ≡ false) × StandsFor new r
-SendsOne r bytes (Err refused) new = (can_send r request_channel ≡ true) × StandsFor new r
+    × IsPeerOf new (with_message request_channel bytes r)
+SendsOne r bytes (Ok false) new = (can_send r request_channel ≡ false) × IsPeerOf new r
+SendsOne r bytes (Err refused) new = (can_send r request_channel ≡ true) × IsPeerOf new r
 
 -- how many of what is owed went
 abbrev pub gone_by : Result Bool OutOfMemory → ℕ
@@ -53,14 +53,14 @@ gone_by (Err refused) = 0
 
 -- the first that was owed went, or none was or the side takes none, or there was no memory
 abbrev pub SendsFront : PeerRecord → List Owed → Result Bool OutOfMemory → Peer → Type 0
-SendsFront r old (Ok true) peer = (can_send r request_channel ≡ true) × StandsFor peer (all_asked (take 1 old) r)
-SendsFront r old (Ok false) peer = ((old ≡ []) ⊎ (can_send r request_channel ≡ false)) × StandsFor peer r
-SendsFront r old (Err refused) peer = (can_send r request_channel ≡ true) × StandsFor peer r
+SendsFront r old (Ok true) peer = (can_send r request_channel ≡ true) × IsPeerOf peer (all_asked (take 1 old) r)
+SendsFront r old (Ok false) peer = ((old ≡ []) ⊎ (can_send r request_channel ≡ false)) × IsPeerOf peer r
+SendsFront r old (Err refused) peer = (can_send r request_channel ≡ true) × IsPeerOf peer r
 
 -- The first so many went, and the rest stays in its order.
 pub record HaveGone (r : PeerRecord) (old new : List Owed) (count : ℕ) (peer : Peer) : Type 0 where
   pub rest : new ≡ drop count old
-  pub stands : StandsFor peer (all_asked (take count old) r)
+  pub stands : IsPeerOf peer (all_asked (take count old) r)
 
 -- Fewer went than the side takes.
 pub record HaveGoneBefore (r : PeerRecord) (old new : List Owed) (peer : Peer) : Type 0 where

@@ -9,7 +9,7 @@ use Rattle.gs_fecqueue.specs.Moves.{moved_by}
 use Rattle.gs_fecqueue.specs.Standing.{is_at_hand, all_but_last}
 use Rattle.gs_fecqueue.specs.QueueLaws.{HasImageAtHand}
 use Rattle.gs_depack.specs.declared.depack.Depack.{Depack}
-use Rattle.gs_depack.specs.Depack.{Handing, IsMove, StandsFor as DepackStandsFor}
+use Rattle.gs_depack.specs.Depack.{Handing, IsMove, IsDepackOf}
 use Rattle.gs_client_core.specs.declared.given.Given.{Given}
 use Rattle.gs_client_core.specs.Given.{frames_of, handed_at, in_some}
 
@@ -23,11 +23,11 @@ pub record IsMovedOn (d : Depack) (c : ClientSettings) (came : List Arrival) (by
 -- or it wasn't told of it, since it moved nothing
 pub record IsAsBefore (d : Depack) (c : ClientSettings) (came : List Arrival) (bytes : List ℕ) : Type 0 where
   pub nothing : moved_by c came bytes ≡ None
-  pub stands : DepackStandsFor d c came
+  pub stands : IsDepackOf d c came
 
-abbrev pub IsTold : Depack → ClientSettings → List Arrival → List ℕ → Option Moved → Type 0
-IsTold d c came bytes None = IsAsBefore d c came bytes
-IsTold d c came bytes (Some moved) = IsMovedOn d c came bytes moved
+abbrev pub IsArrivalTold : Depack → ClientSettings → List Arrival → List ℕ → Option Moved → Type 0
+IsArrivalTold d c came bytes None = IsAsBefore d c came bytes
+IsArrivalTold d c came bytes (Some moved) = IsMovedOn d c came bytes moved
 
 -- a frame that is whole with this datagram, and wasn't complete
 pub record IsNowWhole (c : ClientSettings) (came : List Arrival) (bytes : List ℕ) : Type 0 where
@@ -40,18 +40,18 @@ pub record HandsRest (d : Depack) (c : ClientSettings) (came : List Arrival) (gi
   pub rest : List Handed
   pub all : given ++ rest ≡ handed c came
   pub places_are : places ≡ in_some (length places) (frames_of rest)
-  pub stands : DepackStandsFor d c came
+  pub stands : IsDepackOf d c came
 
 -- a complete frame whose image is at hand
-pub record IsReady (c : ClientSettings) (came : List Arrival) (h : Handed) : Type 0 where
+pub record IsHandReady (c : ClientSettings) (came : List Arrival) (h : Handed) : Type 0 where
   pub at_hand : is_at_hand c.window (taken c (all_but_last came)) (taken c came) h.frame ≡ true
   pub is_complete : IsComplete c (taken c came) h.frame (record { kind = h.kind; unit = h.unit })
 
 abbrev pub AreReady : ClientSettings → List Arrival → List Handed → Type 0
-AreReady c came hs = All (IsReady c came) hs
+AreReady c came hs = All (IsHandReady c came) hs
 
 -- What is given in a place: such a frame, where the place has its index, and else nothing.
 pub record PlaceGives (c : ClientSettings) (came : List Arrival) (place : Option ℕ) (unit : Option Given)
     : Type 0 where
   pub none : place ≡ None → unit ≡ None
-  pub some : (h : Handed) → IsReady c came h → place ≡ Some h.frame → handed_at unit ≡ Some h
+  pub some : (h : Handed) → IsHandReady c came h → place ≡ Some h.frame → handed_at unit ≡ Some h

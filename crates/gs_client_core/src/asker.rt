@@ -2,7 +2,7 @@
 
 ghost use Rattle.std.specs.Prelude.{◌≡◌, ◌≤◌, ◌+◌, ◌++◌, ◌∷◌, [], OnOk, OnErr, length};
 ghost use Rattle.gs_enet.specs.Record.{PeerRecord};
-ghost use Rattle.gs_enet.specs.Standing.{StandsFor as PeerStandsFor};
+ghost use Rattle.gs_enet.specs.Standing.{IsPeerOf};
 ghost use Rattle.gs_control.specs.Message.{IsWritten, HasInputButton};
 ghost use Rattle.gs_client_core.specs.Owed.{message_of, owed_message, SendsOne};
 
@@ -45,7 +45,7 @@ impl Owed {
 
     // Gives it to the peer, where the connection is up and its window isn't full, and tells whether it went.
     fn send(&self, peer: &mut Peer) -> Result<bool, OutOfMemory>
-        ensures { (r : PeerRecord) → PeerStandsFor peer.old r → SendsOne r (owed_message self.now) result peer.new }
+        ensures { (r : PeerRecord) → IsPeerOf peer.old r → SendsOne r (owed_message self.now) result peer.new }
     {
         let mut out = [0; MESSAGE_ROOM];
         let length = self.message().write(&mut out);
@@ -129,7 +129,7 @@ impl Asker {
         ensures rest { self.new ≡ drop (gone_by result) self.old }
         ensures fewer { length self.new + gone_by result ≡ length self.old }
         ensures some { OnErr result (1 ≤ length self.old) }
-        ensures gone { (r : PeerRecord) → PeerStandsFor peer.old r → SendsFront r self.old result peer.new }
+        ensures gone { (r : PeerRecord) → IsPeerOf peer.old r → SendsFront r self.old result peer.new }
     {
         let Some(owed) = self.owed.front() else {
             return Ok(false);
@@ -145,7 +145,7 @@ impl Asker {
     /// is full, or the connection isn't up. Answers how many went. After want of memory those that went are gone, and
     /// the rest stays.
     pub fn send_owed(&mut self, peer: &mut Peer) -> Result<u32, OutOfMemory>
-        ensures { (r : PeerRecord) → PeerStandsFor peer.old r → SendsOwed r self.old self.new result peer.new }
+        ensures { (r : PeerRecord) → IsPeerOf peer.old r → SendsOwed r self.old self.new result peer.new }
     {
         let all = self.count();
         'owed: for gone in 0..all {

@@ -44,7 +44,7 @@ impl Client {
     ghost use Rattle.gs_audio.specs.Units.{played_units};
     ghost use Rattle.gs_client_core.specs.contracts.client.Client.{the_row};
     ghost use Rattle.gs_client_core.specs.Given.{frames_of, in_places, AreGiven};
-    ghost use Rattle.gs_client_core.specs.Standing.{StandsFor};
+    ghost use Rattle.gs_client_core.specs.Standing.{IsClientOf};
     ghost use Rattle.gs_client_core.specs.Steps.{AreReady};
 
     /// A client that was given nothing, with a window of 1 to 4 frames. It takes all its memory.
@@ -52,7 +52,7 @@ impl Client {
         requires least { least_window ≤ window }
         requires greatest { window ≤ most_window }
         ensures { IfOk result (λ client. (c : ClientSettings) → c.stream ≡ numbers_of settings.now → c.window ≡ window
-            → StandsFor client c [] []) }
+            → IsClientOf client c [] []) }
     {
         Ok(Client {
             settings: *settings,
@@ -65,14 +65,14 @@ impl Client {
     // Takes one more datagram.
     fn step(&mut self, datagram: &[u8]) -> Step
         ensures what { (c : ClientSettings) (came : List Arrival) (sound : List (List ℕ))
-            → StandsFor self.old c came sound → result.what ≡ verdict c came datagram.now }
+            → IsClientOf self.old c came sound → result.what ≡ verdict c came datagram.now }
         ensures ask { (c : ClientSettings) (came : List Arrival) (sound : List (List ℕ))
-            → StandsFor self.old c came sound → result.ask ≡ newly_asked c (Datagram datagram.now) came }
+            → IsClientOf self.old c came sound → result.ask ≡ newly_asked c (Datagram datagram.now) came }
         ensures frames { (c : ClientSettings) (came : List Arrival) (sound : List (List ℕ))
-            → StandsFor self.old c came sound
+            → IsClientOf self.old c came sound
             → result.frames ≡ in_places (frames_of (newly_handed c (Datagram datagram.now) came)) }
         ensures stands { (c : ClientSettings) (came : List Arrival) (sound : List (List ℕ))
-            → StandsFor self.old c came sound → StandsFor self.new c (Datagram datagram.now ∷ came) sound }
+            → IsClientOf self.old c came sound → IsClientOf self.new c (Datagram datagram.now ∷ came) sound }
     {
         let Outcome { moved, what } = self.queue.add(datagram);
         let ask = tell_moved(&mut self.depack, &moved);
@@ -90,7 +90,7 @@ impl Client {
     // The units of frames that are handed.
     fn units(&self, frames: &[Option<u32>; WINDOW_GREATEST]) -> [Option<Given<'_>>; WINDOW_GREATEST]
         ensures { (c : ClientSettings) (came : List Arrival) (sound : List (List ℕ)) (hs : List Handed)
-            → StandsFor self.now c came sound → AreReady c came hs → frames.now ≡ in_places (frames_of hs)
+            → IsClientOf self.now c came sound → AreReady c came hs → frames.now ≡ in_places (frames_of hs)
             → AreGiven result hs }
     {
         units_of(&self.queue, self.settings.packet, frames)
@@ -100,14 +100,14 @@ impl Client {
     /// are handed with it.
     pub fn take<'a>(&'a mut self, datagram: &[u8]) -> Taken<'a>
         ensures what { (c : ClientSettings) (came : List Arrival) (sound : List (List ℕ))
-            → StandsFor self.old c came sound → result.what ≡ verdict c came datagram.now }
+            → IsClientOf self.old c came sound → result.what ≡ verdict c came datagram.now }
         ensures ask { (c : ClientSettings) (came : List Arrival) (sound : List (List ℕ))
-            → StandsFor self.old c came sound → result.ask ≡ newly_asked c (Datagram datagram.now) came }
+            → IsClientOf self.old c came sound → result.ask ≡ newly_asked c (Datagram datagram.now) came }
         ensures units { (c : ClientSettings) (came : List Arrival) (sound : List (List ℕ))
-            → StandsFor self.old c came sound → AreGiven result.units (newly_handed c (Datagram datagram.now) came) }
+            → IsClientOf self.old c came sound → AreGiven result.units (newly_handed c (Datagram datagram.now) came) }
         ensures* stands { sem 𝓛 (Rests the_row self.entry (λ new. (c : ClientSettings) (came : List Arrival)
-            (sound : List (List ℕ)) → StandsFor self.old c came sound
-            → StandsFor new c (Datagram datagram.now ∷ came) sound)) }
+            (sound : List (List ℕ)) → IsClientOf self.old c came sound
+            → IsClientOf new c (Datagram datagram.now ∷ came) sound)) }
     {
         let Step { what, ask, frames } = self.step(datagram);
         Taken {
@@ -120,7 +120,7 @@ impl Client {
     /// The decoder was reset: no frame but an IDR frame is handed until one was.
     pub fn reset(&mut self)
         ensures { (c : ClientSettings) (came : List Arrival) (sound : List (List ℕ))
-            → StandsFor self.old c came sound → StandsFor self.new c (Reset ∷ came) sound }
+            → IsClientOf self.old c came sound → IsClientOf self.new c (Reset ∷ came) sound }
     {
         self.depack.reset();
     }
@@ -128,12 +128,12 @@ impl Client {
     /// Takes one more audio datagram, of any bytes, and answers the units that it plays.
     pub fn play<'a>(&'a mut self, datagram: &[u8]) -> Played<'a>
         ensures units { (c : ClientSettings) (came : List Arrival) (sound : List (List ℕ))
-            → StandsFor self.old c came sound → played_units result ≡ newly_played c.stream datagram.now sound }
+            → IsClientOf self.old c came sound → played_units result ≡ newly_played c.stream datagram.now sound }
         ensures nothing { played_units result ≡ [] → result.first ≡ 0 }
         ensures first { result.first % 4 ≡ 0 }
         ensures* stands { sem 𝓛 (Rests the_row self.entry (λ new. (c : ClientSettings) (came : List Arrival)
-            (sound : List (List ℕ)) → StandsFor self.old c came sound
-            → StandsFor new c came (datagram.now ∷ sound))) }
+            (sound : List (List ℕ)) → IsClientOf self.old c came sound
+            → IsClientOf new c came (datagram.now ∷ sound))) }
     {
         self.audio.add(datagram)
     }

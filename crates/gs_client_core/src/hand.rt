@@ -4,10 +4,10 @@ ghost use Rattle.std.specs.Prelude.{◌≡◌, ◌≤◌, ◌+◌, List, length,
 ghost use Rattle.gs_frames.specs.Client.{ClientSettings, Arrival, most_window};
 ghost use Rattle.gs_frames.specs.Shards.{packet_header};
 ghost use Rattle.gs_frames.specs.Handed.{Handed, handed};
-ghost use Rattle.gs_fecqueue.specs.Standing.{StandsFor as QueueStandsFor};
+ghost use Rattle.gs_fecqueue.specs.Standing.{IsQueueOf};
 ghost use Rattle.gs_depack.specs.Depack.{Handing};
 ghost use Rattle.gs_client_core.specs.Given.{frames_of, handed_at, in_places, AreGiven};
-ghost use Rattle.gs_client_core.specs.Steps.{HandsRest, IsReady, AreReady, PlaceGives};
+ghost use Rattle.gs_client_core.specs.Steps.{HandsRest, IsHandReady, AreReady, PlaceGives};
 
 use crate::given::Given;
 use crate::tell::PACKET_HEADER;
@@ -30,7 +30,7 @@ pub(crate) fn next_frames(depack: &mut Depack) -> [Option<u32>; WINDOW_GREATEST]
 fn unit_of(queue: &Queue, packet: u16, frame: u32) -> Option<Given<'_>>
     requires packet { packet_header ≤ packet }
     ensures { (c : ClientSettings) (came : List Arrival) (h : Handed) → packet ≡ c.stream.packet
-        → QueueStandsFor queue.now c came → IsReady c came h → frame ≡ h.frame → handed_at result ≡ Some h }
+        → IsQueueOf queue.now c came → IsHandReady c came h → frame ≡ h.frame → handed_at result ≡ Some h }
 {
     let image = queue.image(frame);
     match read_image(image, packet - PACKET_HEADER) {
@@ -46,7 +46,7 @@ fn unit_of(queue: &Queue, packet: u16, frame: u32) -> Option<Given<'_>>
 // What is given in a place.
 fn unit_in(queue: &Queue, packet: u16, place: Option<u32>) -> Option<Given<'_>>
     requires packet { packet_header ≤ packet }
-    ensures { (c : ClientSettings) (came : List Arrival) → packet ≡ c.stream.packet → QueueStandsFor queue.now c came
+    ensures { (c : ClientSettings) (came : List Arrival) → packet ≡ c.stream.packet → IsQueueOf queue.now c came
         → PlaceGives c came place result }
 {
     match place {
@@ -63,7 +63,7 @@ pub(crate) fn units_of<'a>(
 ) -> [Option<Given<'a>>; WINDOW_GREATEST]
     requires packet { packet_header ≤ packet }
     ensures { (c : ClientSettings) (came : List Arrival) (hs : List Handed) → packet ≡ c.stream.packet
-        → QueueStandsFor queue.now c came → AreReady c came hs → frames.now ≡ in_places (frames_of hs)
+        → IsQueueOf queue.now c came → AreReady c came hs → frames.now ≡ in_places (frames_of hs)
         → AreGiven result hs }
 {
     [

@@ -9,9 +9,9 @@ ghost use Rattle.gs_frames.specs.Handed.{handed};
 ghost use Rattle.gs_frames.specs.Asks.{newly_asked};
 ghost use Rattle.gs_fecqueue.specs.declared.moved.Moved.{Moved};
 ghost use Rattle.gs_fecqueue.specs.Moves.{moved_by};
-ghost use Rattle.gs_fecqueue.specs.Standing.{StandsFor as QueueStandsFor};
-ghost use Rattle.gs_depack.specs.Depack.{Handing, StandsFor as DepackStandsFor};
-ghost use Rattle.gs_client_core.specs.Steps.{IsTold, IsNowWhole};
+ghost use Rattle.gs_fecqueue.specs.Standing.{IsQueueOf};
+ghost use Rattle.gs_depack.specs.Depack.{Handing, IsDepackOf};
+ghost use Rattle.gs_client_core.specs.Steps.{IsArrivalTold, IsNowWhole};
 
 use gs_depack::{Depack, read_image};
 use gs_fecqueue::{Moved, Queue};
@@ -24,11 +24,11 @@ pub(crate) const PACKET_HEADER: u16 = 16;
 // Tells what a datagram moved, and answers the range to ask for.
 pub(crate) fn tell_moved(depack: &mut Depack, moved: &Option<Moved>) -> Option<Range>
     ensures asks { (c : ClientSettings) (came : List Arrival) (bytes : List ℕ) → HasWindow c
-        → DepackStandsFor depack.old c came → moved.now ≡ moved_by c came bytes
+        → IsDepackOf depack.old c came → moved.now ≡ moved_by c came bytes
         → result ≡ newly_asked c (Datagram bytes) came }
     ensures tells { (c : ClientSettings) (came : List Arrival) (bytes : List ℕ) → HasWindow c
-        → DepackStandsFor depack.old c came → moved.now ≡ moved_by c came bytes
-        → IsTold depack.new c came bytes moved.now }
+        → IsDepackOf depack.old c came → moved.now ≡ moved_by c came bytes
+        → IsArrivalTold depack.new c came bytes moved.now }
 {
     match moved {
         Some(moved) => depack.moved(moved),
@@ -40,8 +40,8 @@ pub(crate) fn tell_moved(depack: &mut Depack, moved: &Option<Moved>) -> Option<R
 fn note_frame(depack: &mut Depack, queue: &Queue, packet: u16, frame: u32)
     requires packet { packet_header ≤ packet }
     ensures { (c : ClientSettings) (came : List Arrival) (bytes : List ℕ) (moved : Option Moved) → HasWindow c
-        → packet ≡ c.stream.packet → QueueStandsFor queue.now c (Datagram bytes ∷ came)
-        → IsTold depack.old c came bytes moved → (is : IsNowWhole c came bytes) → frame ≡ is.at.r.head.frame
+        → packet ≡ c.stream.packet → IsQueueOf queue.now c (Datagram bytes ∷ came)
+        → IsArrivalTold depack.old c came bytes moved → (is : IsNowWhole c came bytes) → frame ≡ is.at.r.head.frame
         → Handing depack.new c (Datagram bytes ∷ came) None (handed c came) }
 {
     match read_image(queue.image(frame), packet - PACKET_HEADER) {
@@ -54,8 +54,9 @@ fn note_frame(depack: &mut Depack, queue: &Queue, packet: u16, frame: u32)
 fn note_whole(depack: &mut Depack, queue: &Queue, packet: u16, datagram: &[u8])
     requires packet { packet_header ≤ packet }
     ensures { (c : ClientSettings) (came : List Arrival) (moved : Option Moved) → HasWindow c
-        → packet ≡ c.stream.packet → QueueStandsFor queue.now c (Datagram datagram.now ∷ came) → verdict c came datagram.now ≡ FrameWhole
-        → IsTold depack.old c came datagram.now moved
+        → packet ≡ c.stream.packet → IsQueueOf queue.now c (Datagram datagram.now ∷ came)
+        → verdict c came datagram.now ≡ FrameWhole
+        → IsArrivalTold depack.old c came datagram.now moved
         → Handing depack.new c (Datagram datagram.now ∷ came) None (handed c came) }
 {
     match read_video(datagram, packet) {
@@ -74,8 +75,9 @@ pub(crate) fn tell_complete(
 )
     requires packet { packet_header ≤ packet }
     ensures { (c : ClientSettings) (came : List Arrival) (moved : Option Moved) → HasWindow c
-        → packet ≡ c.stream.packet → QueueStandsFor queue.now c (Datagram datagram.now ∷ came) → what ≡ verdict c came datagram.now
-        → IsTold depack.old c came datagram.now moved
+        → packet ≡ c.stream.packet → IsQueueOf queue.now c (Datagram datagram.now ∷ came)
+        → what ≡ verdict c came datagram.now
+        → IsArrivalTold depack.old c came datagram.now moved
         → Handing depack.new c (Datagram datagram.now ∷ came) None (handed c came) }
 {
     match what {

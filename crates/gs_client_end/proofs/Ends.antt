@@ -4,7 +4,7 @@ use Rattle.std.proofs.Common.{◌∙◌, arith}
 use Rattle.std.specs.Prelude.{nat_lt, if◌then◌else◌}
 use Rattle.std.specs.List.{flat_map}
 use Rattle.std.proofs.Math.Seq.{take-append_seam}
-use Rattle.std.proofs.lemmas.Bool.{and_parts}
+use Rattle.std.proofs.lemmas.Bool.{and_parts, or_right, or_left, and_from, not-true}
 use Rattle.std.proofs.lemmas.List.{length-drop}
 use Rattle.gs_control.specs.declared.message.Message.{Message}
 use Rattle.gs_control.specs.Message.{bytes_of}
@@ -18,23 +18,23 @@ use Rattle.gs_schedule.specs.declared.output.Output.TheVariants as output
 use Rattle.gs_client_core.specs.declared.client.Client.{Client}
 use Rattle.gs_client_core.specs.declared.asker.Owed.{Owed}
 use Rattle.gs_client_core.specs.Owed.{request_channel, owed_message, asked, all_asked, going}
-use Rattle.gs_client_core.specs.Standing.{StandsFor as IsClientOf}
+use Rattle.gs_client_core.specs.Standing.{IsClientOf}
 use Rattle.gs_sides.specs.declared.side.ControlSide.{ControlSide}
-use Rattle.gs_sides.specs.Standing.{StandsFor as IsSideOf}
-use Rattle.gs_sides.specs.Outcomes.{TellsAll, Sends, Takes, GivesOwed}
+use Rattle.gs_sides.specs.Standing.{IsSideOf}
+use Rattle.gs_sides.specs.Outcomes.{SideTellsAll, SideSends, SideTakes, GivesOwed}
 use Rattle.gs_run.specs.Session.{Part}
-use Rattle.gs_run.specs.Connection.{with_owed, settled}
+use Rattle.gs_run.specs.Connection.{with_owed, settled_part}
 use Rattle.gs_run.specs.Report.{Acted, quietly, reporting, plain}
 use Rattle.gs_run.specs.Hearing.{client_reports, client_hears, down_taken}
-use Rattle.gs_run.specs.Giving.{given, closed}
+use Rattle.gs_run.specs.Giving.{given, closed_part}
 use Rattle.gs_run.specs.Refusal.{has_made_most, is_client_open}
 use Rattle.gs_report.specs.Reporting.{Reporting, with_reports, Did}
+use Rattle.gs_report.proofs.Reported.{with_none}
 use Rattle.gs_client_end.specs.declared.end.ClientEnd.{ClientEnd}
 use Rattle.gs_client_end.specs.declared.sums.ClientSums.{ClientSums}
-use Rattle.gs_client_end.specs.Standing.{StandsFor}
+use Rattle.gs_client_end.specs.Standing.{IsClientEndOf}
 use Rattle.gs_client_end.specs.Steps.{GivesMessage}
 use Rattle.gs_client_end.specs.Outcomes.{TakesDown}
-use Rattle.gs_client_end.proofs.Texts.{nothing}
 
 -- nothing but its side changes
 pub record IsMoved (old new : ClientEnd) : Type 0 where
@@ -44,8 +44,8 @@ pub record IsMoved (old new : ClientEnd) : Type 0 where
   pub owed : new.owed ≡ old.owed
   pub sums : new.sums ≡ old.sums
 
-pub side_moves : (old new : ClientEnd) (session : ℕ) (part : Part) (x : Side) → StandsFor old session part → IsMoved old new
-    → IsSideOf new.side x → StandsFor new session (record part { client = x })
+pub side_moves : (old new : ClientEnd) (session : ℕ) (part : Part) (x : Side) → IsClientEndOf old session part → IsMoved old new
+    → IsSideOf new.side x → IsClientEndOf new session (record part { client = x })
 side_moves old new session part x h same side =
     record {
       session_is = same.session ∙ h.session_is;
@@ -62,33 +62,16 @@ side_moves old new session part x h same side =
 
 -- ---- the user
 
-pub closes : (old new : ClientEnd) (session : ℕ) (part : Part) → StandsFor old session part → IsMoved old new
-    → IsSideOf new.side (acted Close part.client) → StandsFor new session (closed part).value
-unfolding closed
+pub closes : (old new : ClientEnd) (session : ℕ) (part : Part) → IsClientEndOf old session part → IsMoved old new
+    → IsSideOf new.side (acted Close part.client) → IsClientEndOf new session (closed_part part).value
+unfolding closed_part
 closes old new session part h same side = side_moves old new session part (acted Close part.client) h same side
-
-both_hold : (a b : Bool) → a ≡ true → b ≡ true → (a && b) ≡ true
-both_hold true true e f = refl
-both_hold true false e f = f
-both_hold false b e f = e
-
-first_holds : (a b : Bool) → a ≡ true → (a || b) ≡ true
-first_holds true b e = refl
-first_holds false b e = cc
 
 neither_holds : (a b c : Bool) → b ≡ false → c ≡ false → (a && (b || c)) ≡ false
 neither_holds true false false e f = refl
 neither_holds false false false e f = refl
 neither_holds a true c e f = cc
 neither_holds a b true e f = cc
-
-not_false : (b : Bool) → not b ≡ true → b ≡ false
-not_false false e = refl
-not_false true e = cc
-
-second_holds : (a b : Bool) → b ≡ true → (a || b) ≡ true
-second_holds true b e = refl
-second_holds false b e = e
 
 given_quietly : (session channel : ℕ) (bytes : List ℕ) (part : Part) → is_full part.client.peer channel ≡ false
     → given session channel bytes part ≡ quietly (record part { client = acted (Send channel bytes) part.client })
@@ -102,11 +85,11 @@ given_full session channel bytes part full = rw full refl
 
 -- the message was given
 pub message_given : (old new : ClientEnd) (session channel number : ℕ) (bytes : List ℕ) (part : Part) (most : Bool) (r : Reporting)
-    → StandsFor old session part → most ≡ has_made_most channel part → IsMoved old new
-    → Sends part.client channel bytes (Ok number) new.side → GivesMessage session channel bytes part (not most) new r r
+    → IsClientEndOf old session part → most ≡ has_made_most channel part → IsMoved old new
+    → SideSends part.client channel bytes (Ok number) new.side → GivesMessage session channel bytes part (not most) new r r
 message_given old new session channel number bytes part most r h most_is same sends =
     let able = and_parts (is_open part.client.peer.state) (not (is_full part.client.peer channel)) sends.0 in
-    by able.0 (not_false (is_full part.client.peer channel) able.1) most most_is
+    by able.0 (not-true (is_full part.client.peer channel) able.1) most most_is
   where
     by : is_open part.client.peer.state ≡ true → is_full part.client.peer channel ≡ false → (most : Bool) → most ≡ has_made_most channel part
         → GivesMessage session channel bytes part (not most) new r r
@@ -115,23 +98,23 @@ message_given old new session channel number bytes part most r h most_is same se
       refl,
     )
     by open' room false is = (
-      both_hold (is_client_open part) (is_full part.client.peer channel || not (has_made_most channel part)) open'
-          (second_holds (is_full part.client.peer channel) (not (has_made_most channel part)) (ap not (sym is))),
-      subst (λ (did : Acted Part). Did (StandsFor new session) did r r) (sym (given_quietly session channel bytes part room)) (record {
+      and_from (is_client_open part) (is_full part.client.peer channel || not (has_made_most channel part)) open'
+          (or_right (is_full part.client.peer channel) (not (has_made_most channel part)) (ap not (sym is))),
+      subst (λ (did : Acted Part). Did (IsClientEndOf new session) did r r) (sym (given_quietly session channel bytes part room)) (record {
         stands = side_moves old new session part (acted (Send channel bytes) part.client) h same sends.2;
-        text = nothing r;
+        text = sym (with_none r);
       }),
     )
 
 -- the window is full
 pub window_full : (old new : ClientEnd) (session channel : ℕ) (bytes : List ℕ) (part : Part) (before now : Reporting)
-    → StandsFor old session part → IsMoved old new → Sends part.client channel bytes (Err WindowFull) new.side
+    → IsClientEndOf old session part → IsMoved old new → SideSends part.client channel bytes (Err WindowFull) new.side
     → now ≡ with_reports before (plain (output.Full old.session channel) ∷ [])
     → GivesMessage session channel bytes part true new before now
 window_full old new session channel bytes part before now h same sends text = (
-  both_hold (is_client_open part) (is_full part.client.peer channel || not (has_made_most channel part)) sends.0
-      (first_holds (is_full part.client.peer channel) (not (has_made_most channel part)) sends.1),
-  subst (λ (did : Acted Part). Did (StandsFor new session) did before now) (sym (given_full session channel bytes part sends.1)) (record {
+  and_from (is_client_open part) (is_full part.client.peer channel || not (has_made_most channel part)) sends.0
+      (or_left (is_full part.client.peer channel) (not (has_made_most channel part)) sends.1),
+  subst (λ (did : Acted Part). Did (IsClientEndOf new session) did before now) (sym (given_full session channel bytes part sends.1)) (record {
     stands = side_moves old new session part part.client h same sends.2;
     text = subst (λ (s : ℕ). now ≡ with_reports before (plain (output.Full s channel) ∷ [])) h.session_is text;
   }),
@@ -179,12 +162,12 @@ with_owed-is (first ∷ rest) part =
     by more true = more
     by more false = refl
 
-pub settles : (old new : ClientEnd) (mid : ControlSide) (session now count : ℕ) (part : Part) → StandsFor old session part
+pub settles : (old new : ClientEnd) (mid : ControlSide) (session now count : ℕ) (part : Part) → IsClientEndOf old session part
     → GivesOwed part.client old.asker new.asker count mid
     → ((x : Side) → IsSideOf mid x → IsSideOf new.side (written_out now x))
     → new.session ≡ old.session → new.client ≡ old.client → new.owed + count ≡ old.owed → new.sums ≡ old.sums
-    → StandsFor new session (settled now part)
-unfolding settled
+    → IsClientEndOf new session (settled_part now part)
+unfolding settled_part
 settles old new mid session now count part h gives writes session_same client_same owed_is sums_same =
     let k = going part.client.peer part.owed in
     let count_is : count ≡ k = gives.count_is ∙ ap (going part.client.peer) h.asker in
@@ -196,7 +179,7 @@ settles old new mid session now count part h gives writes session_same client_sa
     gives.stays_are ∙ ap (λ (os : List Owed). drop count os) h.asker ∙ ap (λ (n : ℕ). drop n part.owed) count_is in
     let size : length (drop k part.owed) ≡ length part.owed - k = length-drop k part.owed in
     let had = h.owed in
-    subst (λ (p : Part). StandsFor new session (record p { client = written_out now p.client; host = written_out now p.host }))
+    subst (λ (p : Part). IsClientEndOf new session (record p { client = written_out now p.client; host = written_out now p.host }))
     (sym (with_owed-is part.owed part)) (record {
       session_is = session_same ∙ h.session_is;
       client = subst (λ (c : Client). IsClientOf c part.settings part.came part.sound) (sym client_same) h.client;
@@ -214,9 +197,9 @@ settles old new mid session now count part h gives writes session_same client_sa
 
 -- its side went on to another, and told what arose
 pub hears : (old new : ClientEnd) (session : ℕ) (part : Part) (x : Side) (events : List PeerEvent) (before now : Reporting)
-    → StandsFor old session part → IsMoved old new → TellsAll x events new.side
+    → IsClientEndOf old session part → IsMoved old new → SideTellsAll x events new.side
     → now ≡ with_reports before (flat_map (client_reports old.session) events)
-    → Did (StandsFor new session) (client_hears session (record part { client = x })) before now
+    → Did (IsClientEndOf new session) (client_hears session (record part { client = x })) before now
 hears old new session part x events before now h same tells text =
     record {
       stands = side_moves old new session part (record x { peer = all_told x.peer }) h same tells.stands;
@@ -225,7 +208,7 @@ hears old new session part x events before now h same tells text =
     }
 
 pub takes_down : (old new : ClientEnd) (session moment k : ℕ) (part : Part) (events : List PeerEvent) (before now : Reporting)
-    → StandsFor old session part → IsMoved old new → Takes part.client part.host k moment true events new.side
+    → IsClientEndOf old session part → IsMoved old new → SideTakes part.client part.host k moment true events new.side
     → now ≡ with_reports before (flat_map (client_reports old.session) events)
     → TakesDown session moment k part true new before now
 unfolding down_taken

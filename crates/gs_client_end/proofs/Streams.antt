@@ -20,22 +20,23 @@ use Rattle.gs_client_core.specs.declared.given.Given.{Given}
 use Rattle.gs_client_core.specs.Given.{given_frames, AreGiven}
 use Rattle.gs_client_core.proofs.Units.{given_are}
 use Rattle.gs_client_core.specs.Owed.{request_channel}
-use Rattle.gs_client_core.specs.Standing.{StandsFor as IsClientOf}
+use Rattle.gs_client_core.specs.Standing.{IsClientOf}
 use Rattle.gs_sides.specs.declared.side.ControlSide.{ControlSide}
-use Rattle.gs_sides.specs.Standing.{StandsFor as IsSideOf}
+use Rattle.gs_sides.specs.Standing.{IsSideOf}
 use Rattle.gs_run.specs.Session.{Part}
 use Rattle.gs_run.specs.Opening.{new_part}
 use Rattle.gs_run.specs.Report.{plain, ask_report, hand_report, play_report}
 use Rattle.gs_run.specs.Streaming.{with_audio, reset}
 use Rattle.gs_run.specs.Refusal.{has_made_most, is_client_open, makes_ask}
 use Rattle.gs_report.specs.Reporting.{Reporting, with_reports, Did}
+use Rattle.gs_report.proofs.Reported.{then_more}
 use Rattle.gs_client_end.specs.declared.end.ClientEnd.{ClientEnd}
 use Rattle.gs_client_end.specs.declared.sums.ClientSums.{ClientSums}
 use Rattle.gs_client_end.specs.declared.streaming.Told.{Told}
-use Rattle.gs_client_end.specs.Standing.{AreSums, StandsFor}
+use Rattle.gs_client_end.specs.Standing.{AreClientSums, IsClientEndOf}
 use Rattle.gs_client_end.specs.Steps.{Reported, reports_of, IsGiven, IsTold, Plays}
 use Rattle.gs_client_end.specs.Outcomes.{TakesVideo, Resets}
-use Rattle.gs_client_end.proofs.Texts.{then_more, counted_of}
+use Rattle.gs_client_end.proofs.Texts.{counted_of}
 
 -- ---- a new client
 
@@ -43,7 +44,7 @@ played-none : (s : StreamSettings) → played s [] ≡ []
 unfolding played
 played-none s = refl
 
-pub no_sums : (host_id now : ℕ) (c : ClientSettings) → AreSums (record { handed = 0; asks = 0; units = 0 }) (new_part host_id now c)
+pub no_sums : (host_id now : ℕ) (c : ClientSettings) → AreClientSums (record { handed = 0; asks = 0; units = 0 }) (new_part host_id now c)
 no_sums host_id now c = record {
   handed = ap (λ (l : List Handed). length l) (sym (first-none c));
   asks = ap (λ (l : List Range). length l) (sym (asks-is c [] ∙ asks_of-empty c));
@@ -112,7 +113,7 @@ video_refused session part bytes may new old_session client before now is g =
     (may_not_be_taken (makes_ask (Some bytes) part) may (has_made_most request_channel part) is g.0, g.1)
 
 pub video_taken : (old new : ClientEnd) (session : ℕ) (part : Part) (bytes : List ℕ) (may : Bool) (told : Told) (client : Client)
-    (before now : Reporting) → StandsFor old session part → may ≡ not (has_made_most request_channel part)
+    (before now : Reporting) → IsClientEndOf old session part → may ≡ not (has_made_most request_channel part)
     → IsGiven old.session part.settings part.came part.sound bytes may (Some told) client before now
     → Counts old told client new → TakesVideo session part bytes true new before now
 video_taken old new session part bytes may told client before now h is g counts =
@@ -162,10 +163,10 @@ unfolding played
 played-more s bytes sound = refl
 
 pub audio_taken : (old new : ClientEnd) (session : ℕ) (part : Part) (bytes : List ℕ) (count : ℕ) (client : Client) (before now : Reporting)
-    → StandsFor old session part → Plays old.session part.settings part.came part.sound bytes count client before now
+    → IsClientEndOf old session part → Plays old.session part.settings part.came part.sound bytes count client before now
     → new.session ≡ old.session → new.client ≡ client → new.asker ≡ old.asker → new.owed ≡ old.owed → new.side ≡ old.side
     → new.sums.handed ≡ old.sums.handed → new.sums.asks ≡ old.sums.asks → new.sums.units ≡ old.sums.units + count
-    → Did (StandsFor new session) (with_audio session bytes part) before now
+    → Did (IsClientEndOf new session) (with_audio session bytes part) before now
 audio_taken old new session part bytes count client before now h p session_same client_is asker owed side handed_same asks_same units_more =
     let units = newly_played part.settings.stream bytes part.sound in
     let is : count ≡ length units = counted_of (play_report old.session) units count before now p.played in
@@ -201,7 +202,7 @@ closed_or_most false b e = refl
 closed_or_most true false (inl e) = cc
 closed_or_most true false (inr e) = cc
 
-pub reset_done : (old new : ClientEnd) (session : ℕ) (part : Part) (before now : Reporting) → StandsFor old session part
+pub reset_done : (old new : ClientEnd) (session : ℕ) (part : Part) (before now : Reporting) → IsClientEndOf old session part
     → is_client_open part ≡ true → has_made_most request_channel part ≡ false
     → IsClientOf new.client part.settings (Reset ∷ part.came) part.sound
     → new.session ≡ old.session → new.asker ≡ old.asker ++ Idr ∷ [] → new.owed ≡ old.owed + 1 → new.side ≡ old.side

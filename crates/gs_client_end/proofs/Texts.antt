@@ -2,35 +2,19 @@
 use Rattle.std.proofs.Common.{◌≡◌, ◌+◌, ℕ, suc, List, [], ◌∷◌, ◌++◌, length, get_or, map, Option, Some, None, refl, sym, ap, subst, ◌∙◌, arith}
 use Rattle.std.specs.Borrow.{Bor}
 use Rattle.std.proofs.lemmas.List.{append_assoc, append-nil, length-append, length-map}
-use Rattle.std.proofs.lemmas.Grind.{flat_map-append}
 use Rattle.gs_frames.specs.Asks.{as_list}
 use Rattle.gs_audio.specs.Units.{units_from}
 use Rattle.gs_client_core.specs.declared.given.Given.{Given}
 use Rattle.gs_client_core.specs.Given.{handed_at, given_frames}
-use Rattle.gs_run.specs.Report.{Report, report_text, text_of, hand_report, play_report}
-use Rattle.gs_report.specs.Reporting.{Reporting, with_reports}
+use Rattle.gs_run.specs.Report.{Report, hand_report, play_report}
+use Rattle.gs_report.specs.Reporting.{Reporting}
+use Rattle.gs_report.proofs.Reported.{then_more, with_none}
 use Rattle.gs_client_end.specs.Steps.{Reported}
-
--- nothing is reported
-pub nothing : (r : Reporting) → r ≡ with_reports r []
-nothing r = ap (λ (t : List ℕ). record r { text = t }) (sym (append-nil r.text))
-
--- the one and then the other
-pub behind : (r : Reporting) (xs ys : List Report) → with_reports (with_reports r xs) ys ≡ with_reports r (xs ++ ys)
-behind r xs ys =
-    ap (λ (t : List ℕ). record r { text = t })
-    (append_assoc r.text (text_of r.detail xs) (text_of r.detail ys)
-    ∙ ap (λ (t : List ℕ). r.text ++ t) (sym (flat_map-append (report_text r.detail) xs ys)))
-
-pub then_more : (before mid now : Reporting) (xs ys : List Report) → mid ≡ with_reports before xs → now ≡ with_reports mid ys
-    → now ≡ with_reports before (xs ++ ys)
-then_more before mid now xs ys first second =
-    second ∙ ap (λ (r : Reporting). with_reports r ys) first ∙ behind before xs ys
 
 -- ---- counted
 
 pub none_counted : {A : Type 0} (f : A → Report) (r : Reporting) → Reported (map f []) 0 r r
-none_counted f r = record { count_is = refl; text = nothing r }
+none_counted f r = record { count_is = refl; text = sym (with_none r) }
 
 pub more_counted : (before mid now : Reporting) (xs ys : List Report) (m n sum : ℕ) → Reported xs m before mid → Reported ys n mid now
     → sum ≡ m + n → Reported (xs ++ ys) sum before now

@@ -9,16 +9,17 @@ use Rattle.gs_run.specs.Message.{event_channel}
 use Rattle.gs_run.specs.Report.{Acted}
 use Rattle.gs_run.specs.Hearing.{client_hears, down_taken}
 use Rattle.gs_run.specs.Streaming.{with_video, reset}
-use Rattle.gs_run.specs.Giving.{event_given, idr_asked, closed}
+use Rattle.gs_run.specs.Giving.{event_given, idr_asked, closed_part}
 use Rattle.gs_run.specs.Refusal.{has_made_most, is_client_open, may_give, makes_ask}
 use Rattle.gs_report.specs.Reporting.{Reporting, Did}
 use Rattle.gs_client_end.specs.declared.end.ClientEnd.{ClientEnd}
-use Rattle.gs_client_end.specs.Standing.{StandsFor}
+use Rattle.gs_client_end.specs.Standing.{IsClientEndOf}
 
--- It was done exactly where it is allowed. Where it is not, nothing is reported (and nothing is said of the end any
--- more).
+-- It was done exactly where it is allowed. Where it is not, nothing is reported, and nothing is said of the end any
+-- more: the run has refused the deed, and ends. A message that a channel may not have, and a datagram with which the
+-- client may not ask, were taken by then.
 abbrev pub DoneIf : Bool → ℕ → Acted Part → Bool → ClientEnd → Reporting → Reporting → Type 0
-DoneIf allowed session did true new before now = (allowed ≡ true) × Did (StandsFor new session) did before now
+DoneIf allowed session did true new before now = (allowed ≡ true) × Did (IsClientEndOf new session) did before now
 DoneIf allowed session did false new before now = (allowed ≡ false) × (now ≡ before)
 
 -- no ask is made behind the last that a channel may have
@@ -43,7 +44,7 @@ Resets session part =
     DoneIf (is_client_open part && not (has_made_most request_channel part)) session (reset session part)
 
 abbrev pub Closes : ℕ → Part → Bool → ClientEnd → Type 0
-Closes session part true new = (is_client_open part ≡ true) × StandsFor new session (closed part).value
+Closes session part true new = (is_client_open part ≡ true) × IsClientEndOf new session (closed_part part).value
 Closes session part false new = is_client_open part ≡ false
 
 -- its timers run

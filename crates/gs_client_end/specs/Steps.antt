@@ -8,7 +8,7 @@ use Rattle.gs_frames.specs.Asks.{newly_asked, as_list}
 use Rattle.gs_audio.specs.Played.{newly_played}
 use Rattle.gs_client_core.specs.declared.client.Client.{Client}
 use Rattle.gs_client_core.specs.declared.asker.Owed.TheVariants.{Lost, Idr}
-use Rattle.gs_client_core.specs.Standing.{StandsFor as IsClientOf}
+use Rattle.gs_client_core.specs.Standing.{IsClientOf}
 use Rattle.gs_run.specs.Session.{Part}
 use Rattle.gs_run.specs.Report.{Report, ask_report, hand_report, play_report}
 use Rattle.gs_run.specs.Giving.{given}
@@ -56,8 +56,8 @@ pub record Plays (session : ℕ) (c : ClientSettings) (came : List Arrival) (sou
   pub played : Reported (map (play_report session) (newly_played c.stream bytes sound)) count before now
 
 -- what is asked for is owed, and counted
-abbrev pub owing : Option Range → ClientEnd → ClientEnd
-owing ask end = record end {
+abbrev pub owing_range : Option Range → ClientEnd → ClientEnd
+owing_range ask end = record end {
   asker = end.asker ++ map Lost (as_list ask);
   owed = end.owed + length (as_list ask);
   sums = record (end.sums) { asks = end.sums.asks + length (as_list ask) };

@@ -2,10 +2,10 @@
 
 ghost use Rattle.std.specs.Prelude.{◌≡◌, ◌≤◌, ◌<◌, ℕ, IfOk, OnOk};
 ghost use Rattle.gs_enet.specs.Record.{channels};
-ghost use Rattle.gs_sides.specs.Standing.{StandsFor as IsSideOf};
+ghost use Rattle.gs_sides.specs.Standing.{IsSideOf};
 ghost use Rattle.gs_run.specs.Session.{Part};
 ghost use Rattle.gs_run.specs.Refusal.{is_client_open, has_made_most};
-ghost use Rattle.gs_client_end.specs.Standing.{StandsFor, AreSums};
+ghost use Rattle.gs_client_end.specs.Standing.{IsClientEndOf, AreClientSums};
 
 use crate::sums::ClientSums;
 use gs_bytes::OutOfMemory;
@@ -37,7 +37,7 @@ impl ClientEnd {
     ghost use Rattle.gs_rtp.specs.Stream.{numbers_of};
     ghost use Rattle.gs_frames.specs.Client.{ClientSettings, least_window, most_window};
     ghost use Rattle.gs_run.specs.Opening.{new_part};
-    ghost use Rattle.gs_run.specs.Connection.{settled};
+    ghost use Rattle.gs_run.specs.Connection.{settled_part};
 
     /// The client of the session of this number, which its stream and its connection are named by, with a window of 1
     /// to 4 frames. It was given nothing, and wrote nothing yet.
@@ -51,7 +51,7 @@ impl ClientEnd {
         requires least { least_window ≤ window }
         requires greatest { window ≤ most_window }
         ensures { IfOk result (λ end. (host_id : ℕ) (c : ClientSettings) → c.stream ≡ numbers_of settings.now
-            → c.stream.ssrc ≡ session → c.window ≡ window → StandsFor end session (new_part host_id now c)) }
+            → c.stream.ssrc ≡ session → c.window ≡ window → IsClientEndOf end session (new_part host_id now c)) }
     {
         Ok(ClientEnd {
             session,
@@ -70,22 +70,22 @@ impl ClientEnd {
 
     /// Its side of the control connection.
     pub fn side(&self) -> &ControlSide
-        ensures { (session : ℕ) (part : Part) → StandsFor self.now session part → IsSideOf result.now part.client }
+        ensures { (session : ℕ) (part : Part) → IsClientEndOf self.now session part → IsSideOf result.now part.client }
     {
         &self.side
     }
 
     /// What it did so far.
     pub fn sums(&self) -> ClientSums
-        ensures { (session : ℕ) (part : Part) → StandsFor self.now session part → AreSums result part }
+        ensures { (session : ℕ) (part : Part) → IsClientEndOf self.now session part → AreClientSums result part }
     {
         self.sums
     }
 
     /// Gives what is owed, as far as the window takes it, and writes all that is due.
     pub fn settle(&mut self, now: u32) -> Result<(), OutOfMemory>
-        ensures { OnOk result ((session : ℕ) (part : Part) → StandsFor self.old session part
-            → StandsFor self.new session (settled now part)) }
+        ensures { OnOk result ((session : ℕ) (part : Part) → IsClientEndOf self.old session part
+            → IsClientEndOf self.new session (settled_part now part)) }
     {
         let given = self.side.give_owed(&mut self.asker)?;
         let Some(owed) = self.owed.checked_sub(u64::from(given)) else {
@@ -97,7 +97,7 @@ impl ClientEnd {
 
     /// Whether it isn't closed and not lost.
     pub(crate) fn is_open(&self) -> bool
-        ensures { (session : ℕ) (part : Part) → StandsFor self.now session part → result ≡ is_client_open part }
+        ensures { (session : ℕ) (part : Part) → IsClientEndOf self.now session part → result ≡ is_client_open part }
     {
         self.side.is_open()
     }
@@ -105,7 +105,7 @@ impl ClientEnd {
     /// Whether a channel has as many messages and asks as it may have.
     pub(crate) fn has_made_most(&self, channel: u8) -> bool
         requires { channel < channels }
-        ensures { (session : ℕ) (part : Part) → StandsFor self.now session part
+        ensures { (session : ℕ) (part : Part) → IsClientEndOf self.now session part
             → result ≡ has_made_most channel part }
     {
         let given = self.side.given(channel);

@@ -5,7 +5,7 @@ ghost use Rattle.gs_input.specs.Event.{HasButton, IsKnown};
 ghost use Rattle.gs_enet.specs.Record.{channels, most_message};
 ghost use Rattle.gs_run.specs.Session.{Part};
 ghost use Rattle.gs_run.specs.Message.{event_channel};
-ghost use Rattle.gs_client_end.specs.Standing.{StandsFor};
+ghost use Rattle.gs_client_end.specs.Standing.{IsClientEndOf};
 ghost use Rattle.gs_client_end.specs.Steps.{GivesMessage};
 ghost use Rattle.gs_client_end.specs.Outcomes.{Gives, AsksIdr, Closes};
 
@@ -41,11 +41,12 @@ fn channel_of(event: &Event) -> u8
 
 impl ClientEnd {
     /// The user does something. A full window refuses it, which is reported. Answers false where the client is closed
-    /// or lost, or the event's channel may have no more messages.
+    /// or lost, or the event's channel may have no more messages. Then nothing is reported; but in the second case its
+    /// side has the message, so that the end stands for no part of a run any more.
     pub fn give(&mut self, event: &Event, reporter: &mut Reporter) -> Result<bool, OutOfMemory>
         requires known { IsKnown event.now }
         requires button { HasButton event.now }
-        ensures { IfOk result (λ done. (session : ℕ) (part : Part) → StandsFor self.old session part
+        ensures { IfOk result (λ done. (session : ℕ) (part : Part) → IsClientEndOf self.old session part
             → Gives session event.now part done self.new reporter.old reporter.new) }
     {
         let mut out = [0; MESSAGE_ROOM];
@@ -55,7 +56,7 @@ impl ClientEnd {
 
     /// Asks for a frame that needs no other, as `give` does.
     pub fn ask_idr(&mut self, reporter: &mut Reporter) -> Result<bool, OutOfMemory>
-        ensures { IfOk result (λ done. (session : ℕ) (part : Part) → StandsFor self.old session part
+        ensures { IfOk result (λ done. (session : ℕ) (part : Part) → IsClientEndOf self.old session part
             → AsksIdr session part done self.new reporter.old reporter.new) }
     {
         let mut out = [0; MESSAGE_ROOM];
@@ -73,7 +74,7 @@ impl ClientEnd {
         requires channel { channel < channels }
         requires some { 1 ≤ length bytes.now }
         requires short { length bytes.now ≤ most_message }
-        ensures { IfOk result (λ done. (session : ℕ) (part : Part) → StandsFor self.old session part
+        ensures { IfOk result (λ done. (session : ℕ) (part : Part) → IsClientEndOf self.old session part
             → GivesMessage session channel bytes.now part done self.new reporter.old reporter.new) }
     {
         let may_make = !self.has_made_most(channel);
@@ -95,7 +96,7 @@ impl ClientEnd {
     /// Closes the connection once everything that was sent is acknowledged. Answers false, and does nothing, where it
     /// is closed or lost.
     pub fn close(&mut self) -> bool
-        ensures closes { (session : ℕ) (part : Part) → StandsFor self.old session part
+        ensures closes { (session : ℕ) (part : Part) → IsClientEndOf self.old session part
             → Closes session part result self.new }
         ensures same { result ≡ false → self.new ≡ self.old }
     {

@@ -1,10 +1,10 @@
 // What a client's side of the connection is given, and tells.
 
 ghost use Rattle.std.specs.Prelude.{ℕ, OnOk, IfOk};
-ghost use Rattle.gs_sides.specs.Standing.{StandsFor as IsSideOf};
+ghost use Rattle.gs_sides.specs.Standing.{IsSideOf};
 ghost use Rattle.gs_run.specs.Session.{Part};
 ghost use Rattle.gs_report.specs.Reporting.{Did};
-ghost use Rattle.gs_client_end.specs.Standing.{StandsFor};
+ghost use Rattle.gs_client_end.specs.Standing.{IsClientEndOf};
 ghost use Rattle.gs_client_end.specs.Outcomes.{TakesDown, client_timed};
 
 use crate::ClientEnd;
@@ -23,7 +23,7 @@ impl ClientEnd {
         now: u32,
         reporter: &mut Reporter,
     ) -> Result<bool, OutOfMemory>
-        ensures { IfOk result (λ took. (session : ℕ) (part : Part) → StandsFor self.old session part
+        ensures { IfOk result (λ took. (session : ℕ) (part : Part) → IsClientEndOf self.old session part
             → IsSideOf host.now part.host
             → TakesDown session now number part took self.new reporter.old reporter.new) }
     {
@@ -36,8 +36,8 @@ impl ClientEnd {
 
     /// Lets time pass.
     pub fn timer(&mut self, now: u32, reporter: &mut Reporter) -> Result<(), OutOfMemory>
-        ensures { OnOk result ((session : ℕ) (part : Part) → StandsFor self.old session part
-            → Did (StandsFor self.new session) (client_timed session now part) reporter.old reporter.new) }
+        ensures { OnOk result ((session : ℕ) (part : Part) → IsClientEndOf self.old session part
+            → Did (IsClientEndOf self.new session) (client_timed session now part) reporter.old reporter.new) }
     {
         self.side.timer(now, &mut self.events)?;
         report_events(self.session, &self.events, reporter)

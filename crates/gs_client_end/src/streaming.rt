@@ -2,12 +2,12 @@
 
 ghost use Rattle.std.specs.Prelude.{◌≡◌, ◌+◌, ◌&&◌, not, is_some, ℕ, List, OnOk, IfOk};
 ghost use Rattle.gs_frames.specs.Client.{ClientSettings, Arrival};
-ghost use Rattle.gs_client_core.specs.Standing.{StandsFor as IsClientOf};
+ghost use Rattle.gs_client_core.specs.Standing.{IsClientOf};
 ghost use Rattle.gs_run.specs.Session.{Part};
 ghost use Rattle.gs_run.specs.Streaming.{with_audio};
 ghost use Rattle.gs_report.specs.Reporting.{Did};
-ghost use Rattle.gs_client_end.specs.Standing.{StandsFor};
-ghost use Rattle.gs_client_end.specs.Steps.{IsGiven, Plays, owing, owing_idr};
+ghost use Rattle.gs_client_end.specs.Standing.{IsClientEndOf};
+ghost use Rattle.gs_client_end.specs.Steps.{IsGiven, Plays, owing_range, owing_idr};
 ghost use Rattle.gs_client_end.specs.Outcomes.{TakesVideo, Resets};
 
 use crate::ClientEnd;
@@ -79,13 +79,14 @@ fn counted(count: u64, more: u64) -> Result<u64, OutOfMemory>
 
 impl ClientEnd {
     /// Takes one more video datagram, of any bytes: what it asks for it owes, and reports it first, and then each frame
-    /// that it hands. Answers false where it would ask once more than a channel may have.
+    /// that it hands. Answers false where it would ask once more than a channel may have. Then nothing is reported and
+    /// nothing more is owed; but its client has the datagram, so that the end stands for no part of a run any more.
     pub fn take_video(
         &mut self,
         datagram: &[u8],
         reporter: &mut Reporter,
     ) -> Result<bool, OutOfMemory>
-        ensures { IfOk result (λ took. (session : ℕ) (part : Part) → StandsFor self.old session part
+        ensures { IfOk result (λ took. (session : ℕ) (part : Part) → IsClientEndOf self.old session part
             → TakesVideo session part datagram.now took self.new reporter.old reporter.new) }
     {
         let may_ask = !self.has_made_most(REQUEST_CHANNEL);
@@ -106,7 +107,7 @@ impl ClientEnd {
 
     /// Owes what is asked for.
     fn owe(&mut self, ask: Option<Range>) -> Result<(), OutOfMemory>
-        ensures { OnOk result (self.new ≡ owing ask self.old) }
+        ensures { OnOk result (self.new ≡ owing_range ask self.old) }
     {
         if let Some(range) = ask {
             self.asker.owe(range)?;
@@ -122,8 +123,8 @@ impl ClientEnd {
         datagram: &[u8],
         reporter: &mut Reporter,
     ) -> Result<(), OutOfMemory>
-        ensures { OnOk result ((session : ℕ) (part : Part) → StandsFor self.old session part
-            → Did (StandsFor self.new session) (with_audio session datagram.now part) reporter.old reporter.new) }
+        ensures { OnOk result ((session : ℕ) (part : Part) → IsClientEndOf self.old session part
+            → Did (IsClientEndOf self.new session) (with_audio session datagram.now part) reporter.old reporter.new) }
     {
         let units = give_audio(self.session, &mut self.client, datagram, reporter)?;
         self.sums.units = counted(self.sums.units, units)?;
@@ -133,7 +134,7 @@ impl ClientEnd {
     /// Its decoder loses its state, so that it owes its host an IDR request. Answers false where the client is closed
     /// or lost, or would ask once more than a channel may have.
     pub fn reset(&mut self, reporter: &mut Reporter) -> Result<bool, OutOfMemory>
-        ensures { IfOk result (λ done. (session : ℕ) (part : Part) → StandsFor self.old session part
+        ensures { IfOk result (λ done. (session : ℕ) (part : Part) → IsClientEndOf self.old session part
             → Resets session part done self.new reporter.old reporter.new) }
     {
         if !self.is_open() || self.has_made_most(REQUEST_CHANNEL) {

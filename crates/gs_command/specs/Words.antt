@@ -22,8 +22,8 @@ at_least_one None = None
 at_least_one (Some n) = if n == 0 then None else Some n
 
 -- a number from 1 up to another
-abbrev pub number_of : ℕ → List ℕ → Option ℕ
-number_of most word = at_least_one (decimal_up_to most word)
+abbrev pub number_in_word : ℕ → List ℕ → Option ℕ
+number_in_word most word = at_least_one (decimal_up_to most word)
 
 abbrev pub detail_of : List ℕ → Option Detail
 detail_of word =
@@ -44,10 +44,10 @@ abbrev pub script_places : Places
 script_places = (λ w. is_some (detail_of w)) ∷ is_name ∷ is_name ∷ []
 
 abbrev pub ticks_places : Places
-ticks_places = (λ w. is_some (number_of most_generated w)) ∷ []
+ticks_places = (λ w. is_some (number_in_word most_generated w)) ∷ []
 
 abbrev pub generated_places : Places
-generated_places = (λ w. is_some (number_of MOST_NUMBER w)) ∷ ticks_places
+generated_places = (λ w. is_some (number_in_word MOST_NUMBER w)) ∷ ticks_places
 
 -- the first place, from this one on, where a word doesn't fit, is missing, or is one too many
 abbrev pub misfit_from : ℕ → Places → List (List ℕ) → Option ℕ
@@ -72,13 +72,13 @@ generated_by (Some number) (Some ticks) = Some (record { number = number; ticks 
 generated_by _ _ = None
 
 -- said by the words behind `make` and `tape`
-abbrev pub ticks_of : List (List ℕ) → Option ℕ
-ticks_of (ticks ∷ []) = number_of most_generated ticks
-ticks_of _ = None
+abbrev pub ticks_in_words : List (List ℕ) → Option ℕ
+ticks_in_words (ticks ∷ []) = number_in_word most_generated ticks
+ticks_in_words _ = None
 
 abbrev pub generated_of : List (List ℕ) → Option Generated
 generated_of [] = None
-generated_of (number ∷ rest) = generated_by (number_of MOST_NUMBER number) (ticks_of rest)
+generated_of (number ∷ rest) = generated_by (number_in_word MOST_NUMBER number) (ticks_in_words rest)
 
 -- how much is written, said by the words behind `script`
 abbrev pub script_of : List (List ℕ) → Option Detail
@@ -95,9 +95,9 @@ command_of (first ∷ rest) =
     else None
 
 -- a command is read where all words fit, and else the first that doesn't is told
-abbrev pub Reads : List (List ℕ) → Result TrialCommand ℕ → Type 0
-Reads words (Ok command) = (first_misfit words ≡ None) × (command_of words ≡ Some command)
-Reads words (Err word) = (first_misfit words ≡ Some word) × (command_of words ≡ None)
+abbrev pub ReadsCommand : List (List ℕ) → Result TrialCommand ℕ → Type 0
+ReadsCommand words (Ok command) = (first_misfit words ≡ None) × (command_of words ≡ Some command)
+ReadsCommand words (Err word) = (first_misfit words ≡ Some word) × (command_of words ≡ None)
 
 -- the same of the words from a place on, of which a value is read
 abbrev pub ReadsFrom : {A : Type 0} → ℕ → Places → List (List ℕ) → Option A → Result A ℕ → Type 0

@@ -1,7 +1,9 @@
 //! Reading the words.
 
 ghost use Rattle.std.specs.Prelude.{◌≡◌, [], ◌∷◌, map, string_bytes};
-ghost use Rattle.gs_command.specs.Words.{Reads, ReadsFrom, FitsFrom, number_of, detail_of, is_name, script_places, script_of, generated_places, generated_of, ticks_places, ticks_of};
+ghost use Rattle.gs_command.specs.Words.{ReadsCommand, ReadsFrom, FitsFrom, number_in_word, detail_of, is_name};
+ghost use Rattle.gs_command.specs.Words.{script_places};
+ghost use Rattle.gs_command.specs.Words.{script_of, generated_places, generated_of, ticks_places, ticks_in_words};
 
 use crate::command::{Detail, Generated, TrialCommand};
 use crate::limits::MOST_NUMBER;
@@ -9,7 +11,7 @@ use gs_bytes::{MOST_GENERATED, parse_number};
 
 // A number from 1 up to another.
 fn number_in(word: &[u8], most: u32) -> Option<u32>
-    ensures { result ≡ number_of most word.now }
+    ensures { result ≡ number_in_word most word.now }
 {
     let number = parse_number(word, most)?;
     if number == 0 {
@@ -78,7 +80,8 @@ fn read_last_name(words: &[String]) -> Result<(), u32>
 
 // The number and the ticks of a generated capture, from the second word on.
 fn read_numbers(words: &[String]) -> Result<Generated, u32>
-    ensures { ReadsFrom 2 generated_places (map string_bytes words.now) (generated_of (map string_bytes words.now)) result }
+    ensures { ReadsFrom 2 generated_places (map string_bytes words.now)
+        (generated_of (map string_bytes words.now)) result }
 {
     match words {
         [] => Err(2),
@@ -94,7 +97,8 @@ fn read_numbers(words: &[String]) -> Result<Generated, u32>
 
 // How many ticks, from the third word on.
 fn read_ticks(words: &[String]) -> Result<u32, u32>
-    ensures { ReadsFrom 3 ticks_places (map string_bytes words.now) (ticks_of (map string_bytes words.now)) result }
+    ensures { ReadsFrom 3 ticks_places (map string_bytes words.now)
+        (ticks_in_words (map string_bytes words.now)) result }
 {
     match words {
         [] => Err(3),
@@ -109,7 +113,7 @@ fn read_ticks(words: &[String]) -> Result<u32, u32>
 
 /// The command that the words are, or the number, from 1, of the first word that doesn't fit or is missing.
 pub fn read_command(words: &[String]) -> Result<TrialCommand, u32>
-    ensures { Reads (map string_bytes words.now) result }
+    ensures { ReadsCommand (map string_bytes words.now) result }
 {
     let [first, rest @ ..] = words else {
         return Err(1);

@@ -6,6 +6,7 @@ use Rattle.std.specs.List.{AllByRecursion}
 use Rattle.gs_bytes.specs.Field.{big_from, little_from, big_bytes, little_bytes}
 use Rattle.gs_input.specs.Event.{HasButton, IsEvent, IsKnown}
 use Rattle.gs_input.specs.Packet.{IsPacket, packet_of}
+use Rattle.gs_control.specs.declared.limits.TheConstants.{MOST_UNREAD}
 use Rattle.gs_control.specs.declared.message.Message.{Message}
 use Rattle.gs_control.specs.declared.message.Message.TheVariants.{StartA, StartB, Invalidate, LossStats, Input, Rumble}
 use Rattle.gs_control.specs.declared.message.Message.TheVariants.{Termination, Ping, IdrRequest, Other}
@@ -29,6 +30,10 @@ kinds = 0x0305 ∷ 0x0307 ∷ 0x0301 ∷ 0x0201 ∷ 0x0206 ∷ 0x010B ∷ 0x0109
 
 -- ---- what is read
 
+-- the bytes of a payload that isn't looked at
+abbrev pub most_unread : ℕ
+most_unread = MOST_UNREAD
+
 -- the payload is one of the message
 abbrev pub IsPayload : List ℕ → Message → Type 0
 IsPayload payload (Invalidate first last) =
@@ -37,7 +42,7 @@ IsPayload payload (Invalidate first last) =
 IsPayload payload (Input event) = IsPacket payload event
 IsPayload payload (Termination code) = (length payload ≡ 4) × (big_from 0 4 payload ≡ code)
 IsPayload payload (Other kind) = AllByRecursion (λ known. kind ≢ known) kinds
-IsPayload payload _ = length payload ≤ 64
+IsPayload payload _ = length payload ≤ most_unread
 
 -- the bytes are a message
 pub record IsMessage (bytes : List ℕ) (message : Message) : Type 0 where
@@ -55,22 +60,23 @@ abbrev pub zeros : ℕ → List ℕ
 zeros n = replicate n 0
 
 -- the payload that is written; none is for the last three
-abbrev pub payload_of : Message → List ℕ
-payload_of StartA = zeros 2
-payload_of StartB = zeros 1
-payload_of (Invalidate first last) = little_bytes 8 (cast_unsigned w64 first) ++ little_bytes 8 (cast_unsigned w64 last)
+abbrev pub message_payload : Message → List ℕ
+message_payload StartA = zeros 2
+message_payload StartB = zeros 1
+message_payload (Invalidate first last) =
+    little_bytes 8 (cast_unsigned w64 first) ++ little_bytes 8 (cast_unsigned w64 last)
     ++ zeros 8
-payload_of (Input event) = packet_of event
-payload_of (Termination code) = big_bytes 4 code
-payload_of Ping = zeros 8
-payload_of IdrRequest = zeros 2
-payload_of LossStats = []
-payload_of Rumble = []
-payload_of (Other kind) = []
+message_payload (Input event) = packet_of event
+message_payload (Termination code) = big_bytes 4 code
+message_payload Ping = zeros 8
+message_payload IdrRequest = zeros 2
+message_payload LossStats = []
+message_payload Rumble = []
+message_payload (Other kind) = []
 
 -- the bytes that are written for a message
 abbrev pub bytes_of : Message → List ℕ
-bytes_of message = little_bytes 2 (message_kind message) ++ payload_of message
+bytes_of message = little_bytes 2 (message_kind message) ++ message_payload message
 
 -- a message that is written
 abbrev pub IsWritten : Message → Type 0

@@ -11,7 +11,7 @@ mod message;
 mod payload;
 
 pub use laws::{bytes_are_one_message, message_is_read};
-pub use limits::MESSAGE_ROOM;
+pub use limits::{MESSAGE_ROOM, MOST_UNREAD};
 pub use message::{BadMessage, Message};
 
 #[cfg(test)]

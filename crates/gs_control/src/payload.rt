@@ -5,9 +5,10 @@ ghost use Rattle.gs_bytes.specs.Field.{little_bytes};
 ghost use Rattle.gs_input.specs.declared.event.Event.{Event};
 ghost use Rattle.gs_input.specs.Event.{HasButton, IsKnown};
 ghost use Rattle.gs_control.specs.declared.message.Message.{Message};
-ghost use Rattle.gs_control.specs.Message.{HasInputButton, IsPayload, bytes_of, message_kind, payload_of};
+ghost use Rattle.gs_control.specs.Message.{HasInputButton, IsPayload, bytes_of, message_kind, most_unread};
+ghost use Rattle.gs_control.specs.Message.{message_payload};
 
-use crate::limits::MESSAGE_ROOM;
+use crate::limits::{MESSAGE_ROOM, MOST_UNREAD};
 use crate::message::{
     IDR_REQUEST, INPUT, INVALIDATE, LOSS_STATS, Message, PING, RUMBLE, START_A, START_B,
     TERMINATION,
@@ -16,8 +17,6 @@ use gs_bytes::{read_i64_le, read_u32_be, write_i64_le, write_u16_le};
 use gs_input::{EVENT_ROOM, Event};
 
 const PAYLOAD_AT: usize = 2;
-/// The longest payload of the messages whose payload isn't looked at.
-const UNREAD_MAX: usize = 64;
 
 const RANGE_LEN: usize = 24;
 
@@ -25,13 +24,14 @@ const CODE_LEN: usize = 4;
 
 /// A message whose payload isn't looked at.
 fn unread(payload: &[u8], message: Message) -> Option<Message>
-    ensures { result ≡ (if nat_le (length payload.now) 64 then Some message else None) }
+    ensures { result ≡ (if nat_le (length payload.now) most_unread then Some message else None) }
 {
-    (payload.len() <= UNREAD_MAX).then_some(message)
+    (payload.len() <= MOST_UNREAD).then_some(message)
 }
 
 fn read_range(payload: &[u8]) -> Option<Message>
-    ensures message { (message : Message) → (result ≡ Some message) ↔ ((message_kind message ≡ 0x0301) × IsPayload payload.now message) }
+    ensures message { (message : Message) → (result ≡ Some message)
+        ↔ ((message_kind message ≡ 0x0301) × IsPayload payload.now message) }
     ensures button { IfSome result (λ message. HasInputButton message) }
 {
     if payload.len() != RANGE_LEN {
@@ -44,7 +44,8 @@ fn read_range(payload: &[u8]) -> Option<Message>
 }
 
 fn read_termination(payload: &[u8]) -> Option<Message>
-    ensures message { (message : Message) → (result ≡ Some message) ↔ ((message_kind message ≡ 0x0109) × IsPayload payload.now message) }
+    ensures message { (message : Message) → (result ≡ Some message)
+        ↔ ((message_kind message ≡ 0x0109) × IsPayload payload.now message) }
     ensures button { IfSome result (λ message. HasInputButton message) }
 {
     if payload.len() != CODE_LEN {
@@ -56,7 +57,8 @@ fn read_termination(payload: &[u8]) -> Option<Message>
 }
 
 fn read_input(payload: &[u8]) -> Option<Message>
-    ensures message { (message : Message) → (result ≡ Some message) ↔ ((message_kind message ≡ 0x0206) × IsPayload payload.now message) }
+    ensures message { (message : Message) → (result ≡ Some message)
+        ↔ ((message_kind message ≡ 0x0206) × IsPayload payload.now message) }
     ensures button { IfSome result (λ message. HasInputButton message) }
 {
     let event = Event::read(payload).ok()?;
@@ -65,7 +67,8 @@ fn read_input(payload: &[u8]) -> Option<Message>
 
 /// The message of a type and a payload.
 pub fn read_payload(kind: u16, payload: &[u8]) -> Option<Message>
-    ensures message { (message : Message) → (result ≡ Some message) ↔ ((kind ≡ message_kind message) × IsPayload payload.now message) }
+    ensures message { (message : Message) → (result ≡ Some message)
+        ↔ ((kind ≡ message_kind message) × IsPayload payload.now message) }
     ensures button { IfSome result (λ message. HasInputButton message) }
 {
     match kind {
@@ -84,7 +87,7 @@ pub fn read_payload(kind: u16, payload: &[u8]) -> Option<Message>
 
 /// The payload of lost frames.
 pub fn range(first: i64, last: i64) -> [u8; RANGE_LEN]
-    ensures { result ≡ payload_of (Message.Invalidate first last) }
+    ensures { result ≡ message_payload (Message.Invalidate first last) }
 {
     let mut payload = [0; RANGE_LEN];
     write_i64_le(&mut payload, 0, first);

@@ -18,7 +18,7 @@ use Rattle.gs_frames.proofs.HandedGrows.{arrival_hands}
 use Rattle.gs_fecqueue.specs.declared.moved.Moved.{Moved}
 use Rattle.gs_fecqueue.specs.Moves.{moved_to, moved_of}
 use Rattle.gs_depack.specs.declared.depack.Depack.{Depack}
-use Rattle.gs_depack.specs.Depack.{noted_kind, Handing, StandsFor}
+use Rattle.gs_depack.specs.Depack.{noted_kind, Handing, IsDepackOf}
 use Rattle.gs_depack.specs.Laws.{DatagramChangesNothing, DatagramCompletesFrame, NothingToNote, HandedSinceIsNewlyHanded, StandingKeepsNumbers, MovesOn}
 use Rattle.gs_depack.specs.Laws.{QueueTellsMoves}
 use Rattle.gs_depack.proofs.Standing.{settled-is_so, nothing-to_note, front-same}
@@ -26,7 +26,7 @@ use Rattle.gs_depack.proofs.Passing.{next-none}
 
 -- ---- nothing changes
 
-same-handing : (d : Depack) (c : ClientSettings) (came : List Arrival) (bytes : List ℕ) → StandsFor d c came
+same-handing : (d : Depack) (c : ClientSettings) (came : List Arrival) (bytes : List ℕ) → IsDepackOf d c came
     → greatest (taken c (Datagram bytes ∷ came)) ≡ greatest (taken c came)
     → ((f : ℕ) → complete c (taken c (Datagram bytes ∷ came)) f ≡ complete c (taken c came) f)
     → Handing d c (Datagram bytes ∷ came) None (handed c came)
@@ -63,7 +63,7 @@ changes_nothing d c came bytes stands same_greatest same =
 -- ---- a frame becomes complete
 
 -- it wasn't settled
-completed-above : (d : Depack) (c : ClientSettings) (came : List Arrival) (r : Received) → StandsFor d c came → 1 ≤ r.head.frame
+completed-above : (d : Depack) (c : ClientSettings) (came : List Arrival) (r : Received) → IsDepackOf d c came → 1 ≤ r.head.frame
     → complete c (taken c came) r.head.frame ≡ None → is_some (complete c (r ∷ taken c came) r.head.frame) ≡ true → d.settled < r.head.frame
 completed-above d c came r stands least none some = elim (cases_lt d.settled r.head.frame) [
   | inl above ↦ above

@@ -4,20 +4,20 @@ use Rattle.std.proofs.Common.{subst, ◌∙◌, arith, inl, inr}
 use Rattle.std.specs.Prelude.{slice_index, nat_le, ◌==◌}
 use Rattle.std.proofs.lemmas.Bool.{cond-true, cond-false, and_parts, eqb-true, leb-true}
 use Rattle.std.proofs.Math.Nat.{div-add-mod}
-use Rattle.gs_frames.specs.Image.{header_length, Frame, is_kind as is_known, kind_of, last_read, most_packets, is_frame_image, unit_length, frame_of}
+use Rattle.gs_frames.specs.Image.{header_length, Frame, is_kind as is_known, kind_of, last_read, most_packets, holds_frame, unit_length, frame_of}
 use Rattle.gs_depack.specs.ImageHead.{IsHeadOf}
 
-pub frame_of-none : (payload : ℕ) (image : List ℕ) → is_frame_image payload image ≡ false → frame_of payload image ≡ None
+pub frame_of-none : (payload : ℕ) (image : List ℕ) → holds_frame payload image ≡ false → frame_of payload image ≡ None
 unfolding frame_of
 frame_of-none payload image fails =
-    cond-false (is_frame_image payload image)
+    cond-false (holds_frame payload image)
     (Some (record { kind = kind_of (slice_index image 3); unit = take (unit_length payload image) (drop header_length image) })) None fails
 
-pub frame_of-some : (payload : ℕ) (image : List ℕ) → is_frame_image payload image ≡ true
+pub frame_of-some : (payload : ℕ) (image : List ℕ) → holds_frame payload image ≡ true
     → frame_of payload image ≡ Some (record { kind = kind_of (slice_index image 3); unit = take (unit_length payload image) (drop header_length image) })
 unfolding frame_of
 frame_of-some payload image passes =
-    cond-true (is_frame_image payload image)
+    cond-true (holds_frame payload image)
     (Some (record { kind = kind_of (slice_index image 3); unit = take (unit_length payload image) (drop header_length image) })) None passes
 
 -- what the tests say of the lengths
@@ -65,7 +65,7 @@ tests-lengths payload all count last mark kind e is_count =
     first_says : (n l : ℕ) → n ≡ 1 → (not (n == 1) || nat_le 8 l) ≡ true → 8 ≤ l
     first_says n l one e = grind arith
 
-head-at : (p : ℕ) (image : List ℕ) (kind last : ℕ) → is_frame_image p image ≡ true → kind ≡ kind_of (slice_index image 3) → last ≡ last_read image
+head-at : (p : ℕ) (image : List ℕ) (kind last : ℕ) → holds_frame p image ≡ true → kind ≡ kind_of (slice_index image 3) → last ≡ last_read image
     → IsHeadOf p image (record { kind = kind; length = (length image / p - 1) * p + last - 8 })
 head-at p image kind last passes is_kind is_last =
     let n = length image / p in
@@ -82,7 +82,7 @@ head-at p image kind last passes is_kind is_last =
     room_for : (full p last all : ℕ) → last ≤ p → 8 ≤ p → all ≡ full + p → 8 + (full + last - 8) ≤ all
     room_for full p last all within least e = omega arith
 
-pub head-is : (payload : ℕ) (image : List ℕ) (p kind last : ℕ) → p ≡ payload → is_frame_image p image ≡ true → kind ≡ kind_of (slice_index image 3)
+pub head-is : (payload : ℕ) (image : List ℕ) (p kind last : ℕ) → p ≡ payload → holds_frame p image ≡ true → kind ≡ kind_of (slice_index image 3)
     → last ≡ last_read image → IsHeadOf payload image (record { kind = kind; length = (length image / p - 1) * p + last - 8 })
 head-is payload image p kind last same passes is_kind is_last =
     subst (λ (x : ℕ). IsHeadOf x image (record { kind = kind; length = (length image / p - 1) * p + last - 8 })) same

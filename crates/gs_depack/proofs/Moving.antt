@@ -15,7 +15,7 @@ use Rattle.gs_frames.specs.SettledLaws.{AreDone}
 use Rattle.gs_frames.specs.Handed.{Handed, settled_at_resets, handed_through, handed}
 use Rattle.gs_frames.specs.Asks.{newly_asked}
 use Rattle.gs_frames.specs.AskLaws.{IsLost, IsLostRange}
-use Rattle.gs_frames.specs.Kept.{kind_if_complete, last_of, is_waiting}
+use Rattle.gs_frames.specs.Kept.{kind_if_complete, last_of, waits_for_idr_frame}
 use Rattle.gs_frames.proofs.Counting.{NoneOf-above, complete-other, complete-none, greatest-new, greatest-kept}
 use Rattle.gs_frames.proofs.Taken.{taken-some}
 use Rattle.gs_frames.proofs.SettledUp.{left-from, left-says, left-not_from, left-not_says, done-same, done-stays, done-above, settled-within, settled-done}
@@ -25,8 +25,8 @@ use Rattle.gs_frames.proofs.HandedGrows.{handed-is, arrival_hands, reset_hands_n
 use Rattle.gs_frames.proofs.AsksGrow.{arrival_asks_for_lost, arrival_asks_for_nothing}
 use Rattle.gs_depack.specs.declared.depack.Depack.{Depack}
 use Rattle.gs_fecqueue.specs.declared.moved.Moved.{Moved}
-use Rattle.gs_depack.specs.Depack.{noted_kind, HasNoneAbove, IsUnnoted, Handing, StandsFor, IsMove}
-use Rattle.gs_depack.specs.Steps.{IsAdvance, Leaves, LeavesNone}
+use Rattle.gs_depack.specs.Depack.{noted_kind, HasNoneAbove, IsUnnoted, Handing, IsDepackOf, IsMove}
+use Rattle.gs_depack.specs.Steps.{IsAdvance, LeavesRange, LeavesNone}
 use Rattle.gs_depack.proofs.Standing.{Settling, kind-none, settled-is_so, front-same}
 
 -- ---- what a datagram of a greater frame leaves as it was
@@ -80,7 +80,7 @@ different a b other within = elim (cases_lt b a) [
   | inr more ↦ absurd (other (omega arith))
 ]
 
-advance-kinds : (d a : Depack) (c : ClientSettings) (came : List Arrival) (bytes : List ℕ) (r : Received) (f : ℕ) → HasWindow c → StandsFor d c came
+advance-kinds : (d a : Depack) (c : ClientSettings) (came : List Arrival) (bytes : List ℕ) (r : Received) (f : ℕ) → HasWindow c → IsDepackOf d c came
     → IsGreater c came bytes r → IsAdvance d a r.head.frame → d.passed < f → f ≤ r.head.frame → (Some r.head.frame ≡ Some f → ⊥)
     → noted_kind a f ≡ kind_if_complete (complete c (taken c (Datagram bytes ∷ came)) f)
 advance-kinds d a c came bytes r f window stands is advance above within noting =
@@ -100,7 +100,7 @@ advance-kinds d a c came bytes r f window stands is advance above within noting 
 
 -- the depack after the greatest frame is this one, settled up to s
 moved-at : (d : Depack) (frames kinds : List ℕ) (s : ℕ) (c : ClientSettings) (came : List Arrival) (bytes : List ℕ) (r : Received) → HasWindow c
-    → StandsFor d c came → IsGreater c came bytes r
+    → IsDepackOf d c came → IsGreater c came bytes r
     → IsAdvance d (record d { greatest = r.head.frame; newest = None; frames = frames; kinds = kinds }) r.head.frame
     → d.settled ≤ s → s < r.head.frame → r.head.frame < suc s + c.window → (d.settled < s → s + c.window ≤ r.head.frame)
     → Settling (record d { greatest = r.head.frame; newest = None; frames = frames; kinds = kinds; settled = s }) c (Datagram bytes ∷ came)
@@ -139,7 +139,7 @@ moved-at d frames kinds s c came bytes r window stands is advance more below sti
     }
 
 -- after the step that leaves frames, with the frames that it settles
-pub moved-none : (d a b : Depack) (c : ClientSettings) (came : List Arrival) (bytes : List ℕ) (r : Received) → HasWindow c → StandsFor d c came
+pub moved-none : (d a b : Depack) (c : ClientSettings) (came : List Arrival) (bytes : List ℕ) (r : Received) → HasWindow c → IsDepackOf d c came
     → IsGreater c came bytes r → IsAdvance d a r.head.frame → LeavesNone a b
     → Settling b c (Datagram bytes ∷ came) (Some r.head.frame) (handed c came)
 moved-none d a b c came bytes r window stands is advance leaves =
@@ -152,7 +152,7 @@ moved-none d a b c came bytes r window stands is advance leaves =
     (omega arith) (omega (arith, handing.settled_greatest, handing.is_greatest, is.above)) (omega (arith, handing.window)) (λ more. absurd (omega arith)))
 
 pub moved-some : (d a b : Depack) (range : Range) (c : ClientSettings) (came : List Arrival) (bytes : List ℕ) (r : Received) → HasWindow c
-    → StandsFor d c came → IsGreater c came bytes r → IsAdvance d a r.head.frame → Leaves a b range
+    → IsDepackOf d c came → IsGreater c came bytes r → IsAdvance d a r.head.frame → LeavesRange a b range
     → Settling b c (Datagram bytes ∷ came) (Some r.head.frame) (handed c came)
 moved-some d a b range c came bytes r window stands is advance leaves =
     let least : 1 ≤ c.window = window.least in
@@ -188,7 +188,7 @@ asks-none c rs r s done greater no_more f lost =
     let now = left-says c.window (r ∷ rs) f lost.is_left_now in
     absurd (omega (arith, greatest-new r rs greater))
 
-pub moved-asks_none : (d : Depack) (c : ClientSettings) (came : List Arrival) (bytes : List ℕ) (r : Received) → HasWindow c → StandsFor d c came
+pub moved-asks_none : (d : Depack) (c : ClientSettings) (came : List Arrival) (bytes : List ℕ) (r : Received) → HasWindow c → IsDepackOf d c came
     → IsGreater c came bytes r → r.head.frame - d.window ≤ d.settled → newly_asked c (Datagram bytes) came ≡ None
 moved-asks_none d c came bytes r window stands is no_more =
     let rs = taken c came in
@@ -196,7 +196,7 @@ moved-asks_none d c came bytes r window stands is no_more =
     (arrival_asks_for_nothing c (Datagram bytes) came window).1
     (subst Nothing (sym is.now) (asks-none c rs r d.settled stands.handing.are_done is.above (omega (arith, stands.handing.window))))
 
-next-none : (d : Depack) (c : ClientSettings) (came : List Arrival) → StandsFor d c came → d.settled < d.greatest
+next-none : (d : Depack) (c : ClientSettings) (came : List Arrival) → IsDepackOf d c came → d.settled < d.greatest
     → complete c (taken c came) (suc d.settled) ≡ None
 next-none d c came stands below =
     let handing = stands.handing in
@@ -205,7 +205,7 @@ next-none d c came stands below =
     (sym (handing.kinds (suc d.settled) (omega (arith, handing.passed_settled)) (omega arith) noting) ∙ handing.next_nothing below)
 
 -- the frame behind the settled ones isn't complete
-next-not_complete : (d : Depack) (c : ClientSettings) (came : List Arrival) → StandsFor d c came → complete c (taken c came) (suc d.settled) ≡ None
+next-not_complete : (d : Depack) (c : ClientSettings) (came : List Arrival) → IsDepackOf d c came → complete c (taken c came) (suc d.settled) ≡ None
 next-not_complete d c came stands = elim (cases_lt d.settled d.greatest) [
   | inl below ↦ next-none d c came stands below
   | inr at_it ↦
@@ -213,7 +213,7 @@ next-not_complete d c came stands = elim (cases_lt d.settled d.greatest) [
       (NoneOf-above (taken c came) (suc d.settled) (omega (arith, stands.handing.is_greatest)))
 ]
 
-asks-some : (d : Depack) (c : ClientSettings) (came : List Arrival) (r : Received) → HasWindow c → StandsFor d c came
+asks-some : (d : Depack) (c : ClientSettings) (came : List Arrival) (r : Received) → HasWindow c → IsDepackOf d c came
     → greatest (taken c came) < r.head.frame → d.settled < r.head.frame - d.window
     → IsLostRange c (taken c came) (r ∷ taken c came) (record { first = suc d.settled; last = r.head.frame - d.window })
 asks-some d c came r window stands greater more =
@@ -235,7 +235,7 @@ asks-some d c came r window stands greater more =
       last_left = omega arith;
     }
 
-pub moved-asks_some : (d : Depack) (c : ClientSettings) (came : List Arrival) (bytes : List ℕ) (r : Received) → HasWindow c → StandsFor d c came
+pub moved-asks_some : (d : Depack) (c : ClientSettings) (came : List Arrival) (bytes : List ℕ) (r : Received) → HasWindow c → IsDepackOf d c came
     → IsGreater c came bytes r → d.settled < r.head.frame - d.window
     → newly_asked c (Datagram bytes) came ≡ Some (record { first = suc d.settled; last = r.head.frame - d.window })
 moved-asks_some d c came bytes r window stands is more =
@@ -248,15 +248,15 @@ moved-asks_some d c came bytes r window stands is more =
 -- ---- one move, as it is told
 
 -- the greatest frame is the datagram's
-move-advances : (moved : Moved) (d a : Depack) (c : ClientSettings) (came : List Arrival) (bytes : List ℕ) (r : Received) → StandsFor d c came
+move-advances : (moved : Moved) (d a : Depack) (c : ClientSettings) (came : List Arrival) (bytes : List ℕ) (r : Received) → IsDepackOf d c came
     → IsMove moved c came bytes r → (HasNoneAbove d → d.greatest < moved.to → IsAdvance d a moved.to) → IsAdvance d a r.head.frame
 move-advances moved d a c came bytes r stands is advances =
     subst (λ (to : ℕ). IsAdvance d a to) is.to
     (advances stands.handing.none_above (omega (arith, stands.handing.is_greatest, is.from, is.rises)))
 
 pub move-settles : (moved : Moved) (d a b : Depack) (o : Option Range) (c : ClientSettings) (came : List Arrival) (bytes : List ℕ) (r : Received) → HasWindow c
-    → StandsFor d c came → IsMove moved c came bytes r → (HasNoneAbove d → d.greatest < moved.to → IsAdvance d a moved.to)
-    → MatchOption o (LeavesNone a b) (λ range. Leaves a b range) → Settling b c (Datagram bytes ∷ came) (Some r.head.frame) (handed c came)
+    → IsDepackOf d c came → IsMove moved c came bytes r → (HasNoneAbove d → d.greatest < moved.to → IsAdvance d a moved.to)
+    → MatchOption o (LeavesNone a b) (λ range. LeavesRange a b range) → Settling b c (Datagram bytes ∷ came) (Some r.head.frame) (handed c came)
 move-settles moved d a b None c came bytes r window stands is advances leaves =
     moved-none d a b c came bytes r window stands (greater-from moved c came bytes r is)
     (move-advances moved d a c came bytes r stands is advances) leaves
@@ -265,8 +265,8 @@ move-settles moved d a b (Some range) c came bytes r window stands is advances l
     (move-advances moved d a c came bytes r stands is advances) leaves
 
 pub move-asks : (moved : Moved) (d a b : Depack) (o : Option Range) (c : ClientSettings) (came : List Arrival) (bytes : List ℕ) (r : Received) → HasWindow c
-    → StandsFor d c came → IsMove moved c came bytes r → (HasNoneAbove d → d.greatest < moved.to → IsAdvance d a moved.to)
-    → MatchOption o (LeavesNone a b) (λ range. Leaves a b range) → o ≡ newly_asked c (Datagram bytes) came
+    → IsDepackOf d c came → IsMove moved c came bytes r → (HasNoneAbove d → d.greatest < moved.to → IsAdvance d a moved.to)
+    → MatchOption o (LeavesNone a b) (λ range. LeavesRange a b range) → o ≡ newly_asked c (Datagram bytes) came
 move-asks moved d a b None c came bytes r window stands is advances leaves =
     let advance = move-advances moved d a c came bytes r stands is advances in
     let At : Depack → Type 0 = λ x. x.greatest - x.window ≤ x.settled in

@@ -6,19 +6,20 @@ use Rattle.std.specs.List.{All, list_any}
 use Rattle.std.proofs.lemmas.Bool.{cond-true, cond-false, lt-ltb, le-ltb}
 use Rattle.std.proofs.lemmas.List.{append-nil}
 use Rattle.std.proofs.lemmas.List.Elements.{All-head, All-tail, All-weaker}
+use Rattle.std.proofs.Math.Bool.{or_assoc}
 use Rattle.gs_frames.specs.Client.{ClientSettings, Arrival, Datagram, Reset}
 use Rattle.gs_frames.specs.Image.{Frame}
 use Rattle.gs_frames.specs.Received.{taken}
 use Rattle.gs_frames.specs.Complete.{complete}
 use Rattle.gs_frames.specs.Settled.{settled}
 use Rattle.gs_frames.specs.Handed.{Handed, settled_at_resets, is_handed, hand_on, handed_through, handed}
-use Rattle.gs_frames.specs.Kept.{kind_if_complete, last_of, is_waiting}
+use Rattle.gs_frames.specs.Kept.{kind_if_complete, last_of, waits_for_idr_frame}
 use Rattle.gs_frames.specs.KeptLaws.{is_handed_next, AreBelow}
 use Rattle.gs_frames.proofs.HandedThrough.{IsHandedNext, hand_on-hands, through-suc, through-rises, RisesTo}
 use Rattle.gs_frames.proofs.HandedGrows.{handed-is, arrival_hands, reset_hands_nothing}
 use Rattle.gs_frames.proofs.HandedNext.{resets-within, last_handed_tells}
 use Rattle.gs_depack.specs.declared.depack.Depack.{Depack}
-use Rattle.gs_depack.specs.Depack.{noted_kind, IsUnnoted, Handing, StandsFor, HandsNext, HandsNone}
+use Rattle.gs_depack.specs.Depack.{noted_kind, IsUnnoted, Handing, IsDepackOf, HandsNext, HandsNone}
 use Rattle.gs_depack.proofs.Standing.{kind-none, settled-is_so}
 
 -- ---- lists with one more
@@ -32,14 +33,10 @@ or_one : (a : Bool) → (a || false) ≡ (false || a)
 or_one true = refl
 or_one false = refl
 
-or_assoc : (a b c : Bool) → (a || (b || c)) ≡ ((a || b) || c)
-or_assoc true b c = refl
-or_assoc false b c = refl
-
 any-push : (test : Handed → Bool) (hs : List Handed) (one : Handed) → list_any test (hs ++ one ∷ []) ≡ (list_any test hs || test one)
 any-push test [] one = or_one (test one)
 any-push test (h ∷ hs) one =
-    ap (λ (b : Bool). test h || b) (any-push test hs one) ∙ or_assoc (test h) (list_any test hs) (test one)
+    ap (λ (b : Bool). test h || b) (any-push test hs one) ∙ sym (or_assoc (test h) (list_any test hs) (test one))
 
 not_either : (any is_idr above : Bool) → above ≡ true → not (any || (is_idr && above)) ≡ (not any && not is_idr)
 not_either true is_idr above e = refl
@@ -48,7 +45,7 @@ not_either false false above e = refl
 
 -- an IDR frame behind all resets ends the waiting
 waiting-push : (resets : List ℕ) (hs : List Handed) (one : Handed) → All (λ s. s < one.frame) resets
-    → is_waiting (hs ++ one ∷ []) resets ≡ (is_waiting hs resets && not (one.kind == 2))
+    → waits_for_idr_frame (hs ++ one ∷ []) resets ≡ (waits_for_idr_frame hs resets && not (one.kind == 2))
 waiting-push [] hs one all = refl
 waiting-push (reset ∷ resets) hs one all =
     let test : Handed → Bool = λ h. h.kind == 2 && nat_lt reset h.frame in
@@ -89,7 +86,7 @@ next-handed d c came unnoted given kind stands =
     let f = suc d.passed in
     ap (λ (l : List ℕ). is_handed l given f kind) stands.same_resets
     ∙ last_handed_tells c stands.since given f kind (omega (arith, stands.was_settled)) (given-below d c came unnoted given stands)
-    ∙ ap (λ (l : List ℕ). is_handed_next (last_of given) (is_waiting given l) f kind) (sym stands.same_resets)
+    ∙ ap (λ (l : List ℕ). is_handed_next (last_of given) (waits_for_idr_frame given l) f kind) (sym stands.same_resets)
     ∙ ap (λ (waits : Bool). is_handed_next (last_of given) waits f kind) (sym stands.waits)
     ∙ ap (λ (last : ℕ). is_handed_next last d.waits_for_idr f kind) (sym stands.last_given)
 
@@ -276,8 +273,8 @@ any-none reset (h ∷ hs) all =
     neither true above rest e none = ap (λ (b : Bool). b || rest) e ∙ none
     neither false above rest e none = none
 
-pub reset-stands : (d : Depack) (c : ClientSettings) (came : List Arrival) → StandsFor d c came
-    → StandsFor (record d { waits_for_idr = true }) c (Reset ∷ came)
+pub reset-stands : (d : Depack) (c : ClientSettings) (came : List Arrival) → IsDepackOf d c came
+    → IsDepackOf (record d { waits_for_idr = true }) c (Reset ∷ came)
 reset-stands d c came stands =
     let handing = stands.handing in
     let now : List Arrival = Reset ∷ came in
@@ -303,7 +300,7 @@ reset-stands d c came stands =
         are_given =
             handed-is c now ∙ ap (handed_through c (taken c came) (settled_at_resets c now)) (settled_so ∙ sym stands.all_passed);
         last_given = handing.last_given ∙ ap last_of (sym same);
-        waits = sym (ap (λ (hs : List Handed). is_waiting hs (settled_at_resets c now)) same
+        waits = sym (ap (λ (hs : List Handed). waits_for_idr_frame hs (settled_at_resets c now)) same
             ∙ ap not (any-none (settled c (taken c came)) (handed c came) under));
         since = now;
         same_resets = refl;

@@ -10,13 +10,13 @@ use Rattle.gs_frames.specs.Complete.{complete, IsComplete}
 use Rattle.gs_frames.specs.Settled.{is_done, settled}
 use Rattle.gs_frames.specs.SettledLaws.{AreDone}
 use Rattle.gs_frames.specs.Handed.{Handed, settled_at_resets, handed_through, handed}
-use Rattle.gs_frames.specs.Kept.{kind_if_complete, last_of, is_waiting}
+use Rattle.gs_frames.specs.Kept.{kind_if_complete, last_of, waits_for_idr_frame}
 use Rattle.gs_frames.proofs.SettledUp.{left-not_from, done-same, done-stays, done-above, settled-within, settled-done, settled-unique}
 use Rattle.gs_frames.proofs.HandedThrough.{through-zero, through-same}
 use Rattle.gs_frames.proofs.HandedGrows.{handed-is}
 use Rattle.gs_depack.specs.declared.depack.Depack.{Depack}
-use Rattle.gs_depack.specs.Depack.{noted_kind, HasNoneAbove, IsUnnoted, Handing, StandsFor}
-use Rattle.gs_depack.specs.Steps.{IsNote, IsSettling, IsSettled}
+use Rattle.gs_depack.specs.Depack.{noted_kind, HasNoneAbove, IsUnnoted, Handing, IsDepackOf}
+use Rattle.gs_depack.specs.Steps.{IsNote, IsSettling, HasSettled}
 
 -- ---- kinds of complete frames
 
@@ -45,7 +45,7 @@ pub record Settling (d : Depack) (c : ClientSettings) (came : List Arrival) (unn
   pub next_open : d.greatest < suc d.settled + c.window
   pub are_given : given ≡ handed_through c (taken c came) (settled_at_resets c came) d.passed
   pub last_given : d.last_handed ≡ last_of given
-  pub waits : d.waits_for_idr ≡ is_waiting given (settled_at_resets c came)
+  pub waits : d.waits_for_idr ≡ waits_for_idr_frame given (settled_at_resets c came)
   pub since : List Arrival
   pub same_resets : settled_at_resets c came ≡ settled_at_resets c since
   pub was_settled : settled c (taken c since) ≤ d.passed
@@ -102,7 +102,7 @@ settle-at d c came unnoted given s stands more within noted next = record {
 
 -- settled as far as it noted, it is handing
 pub settle-hands : (d a : Depack) (c : ClientSettings) (came : List Arrival) (unnoted : Option ℕ) (given : List Handed) → Settling d c came unnoted given
-    → IsSettled d a → Handing a c came unnoted given
+    → HasSettled d a → Handing a c came unnoted given
 settle-hands d a c came unnoted given stands is =
     let all = is.settling in
     subst (λ (x : Depack). Handing x c came unnoted given) (sym all.rest)
@@ -216,7 +216,7 @@ first-none c =
     handed-is c [] ∙ ap (handed_through c [] []) none ∙ through-zero c [] []
 
 pub first-stands : (d : Depack) (c : ClientSettings) → d.window ≡ c.window → d.greatest ≡ 0 → d.settled ≡ 0 → d.passed ≡ 0 → d.last_handed ≡ 0
-    → d.waits_for_idr ≡ false → HasNoneAbove d → StandsFor d c []
+    → d.waits_for_idr ≡ false → HasNoneAbove d → IsDepackOf d c []
 first-stands d c window greatest settled passed last waits none_above =
     let none : handed c [] ≡ [] = first-none c in
     record {

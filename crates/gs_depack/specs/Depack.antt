@@ -9,7 +9,7 @@ use Rattle.gs_frames.specs.Complete.{complete, IsComplete}
 use Rattle.gs_frames.specs.Settled.{settled}
 use Rattle.gs_frames.specs.SettledLaws.{AreDone}
 use Rattle.gs_frames.specs.Handed.{Handed, settled_at_resets, handed_through, handed}
-use Rattle.gs_frames.specs.Kept.{kind_if_complete, last_of, is_waiting}
+use Rattle.gs_frames.specs.Kept.{kind_if_complete, last_of, waits_for_idr_frame}
 
 -- the kind that is noted of a frame: the greatest has a place of its own, each other one that of its number modulo the
 -- greatest window
@@ -47,13 +47,13 @@ pub record Handing (d : Depack) (c : ClientSettings) (came : List Arrival) (unno
   pub next_open : d.greatest < suc d.settled + c.window
   pub are_given : given ≡ handed_through c (taken c came) (settled_at_resets c came) d.passed
   pub last_given : d.last_handed ≡ last_of given
-  pub waits : d.waits_for_idr ≡ is_waiting given (settled_at_resets c came)
+  pub waits : d.waits_for_idr ≡ waits_for_idr_frame given (settled_at_resets c came)
   pub since : List Arrival
   pub same_resets : settled_at_resets c came ≡ settled_at_resets c since
   pub was_settled : settled c (taken c since) ≤ d.passed
 
 -- Between two arrivals all was noted, and each settled frame was handed or passed by.
-pub record StandsFor (d : Depack) (c : ClientSettings) (came : List Arrival) : Type 0 where
+pub record IsDepackOf (d : Depack) (c : ClientSettings) (came : List Arrival) : Type 0 where
   pub handing : Handing d c came None (handed c came)
   pub all_passed : d.passed ≡ d.settled
 
@@ -69,7 +69,7 @@ pub record HandsNext (d : Depack) (c : ClientSettings) (came : List Arrival) (un
 pub record HandsNone (d : Depack) (c : ClientSettings) (came : List Arrival) (unnoted : Option ℕ) (given : List Handed)
     : Type 0 where
   pub all_passed : d.passed ≡ d.settled
-  pub all : unnoted ≡ None → (given ≡ handed c came) × StandsFor d c came
+  pub all : unnoted ≡ None → (given ≡ handed c came) × IsDepackOf d c came
   pub stands : Handing d c came unnoted given
 
 -- a datagram of a greater frame than all before it, as a depack is told of it

@@ -1,7 +1,7 @@
 -- How what a depack stands for goes on where it isn't told of a datagram.
 use Rattle.std.specs.Prelude.{ℕ, ◌≡◌, ◌≤◌, true, List, ◌∷◌, ◌++◌, Some, None, is_some}
 use Rattle.gs_depack.specs.declared.depack.Depack.{Depack}
-use Rattle.gs_depack.specs.Depack.{Handing, StandsFor, IsMove}
+use Rattle.gs_depack.specs.Depack.{Handing, IsDepackOf, IsMove}
 use Rattle.gs_fecqueue.specs.declared.moved.Moved.{Moved}
 use Rattle.gs_fecqueue.specs.Moves.{moved_by}
 use Rattle.gs_frames.specs.Client.{ClientSettings, Arrival, Datagram}
@@ -13,15 +13,15 @@ use Rattle.gs_frames.specs.Handed.{Handed, handed, newly_handed}
 -- A datagram that isn't taken, or neither is of a greater frame nor completes one, changes nothing.
 abbrev pub DatagramChangesNothing : Type 0
 DatagramChangesNothing =
-    (d : Depack) (c : ClientSettings) (came : List Arrival) (bytes : List ℕ) → StandsFor d c came
+    (d : Depack) (c : ClientSettings) (came : List Arrival) (bytes : List ℕ) → IsDepackOf d c came
     → greatest (taken c (Datagram bytes ∷ came)) ≡ greatest (taken c came)
     → ((f : ℕ) → complete c (taken c (Datagram bytes ∷ came)) f ≡ complete c (taken c came) f)
-    → StandsFor d c (Datagram bytes ∷ came)
+    → IsDepackOf d c (Datagram bytes ∷ came)
 
 -- A frame that a datagram completes, and that isn't greater than all before it, is to be noted.
 abbrev pub DatagramCompletesFrame : Type 0
 DatagramCompletesFrame =
-    (d : Depack) (c : ClientSettings) (came : List Arrival) (bytes : List ℕ) (r : Received) → StandsFor d c came
+    (d : Depack) (c : ClientSettings) (came : List Arrival) (bytes : List ℕ) (r : Received) → IsDepackOf d c came
     → IsReceived c.stream bytes r → 1 ≤ r.head.frame → r.head.frame ≤ greatest (taken c came)
     → complete c (taken c came) r.head.frame ≡ None
     → is_some (complete c (taken c (Datagram bytes ∷ came)) r.head.frame) ≡ true
@@ -49,7 +49,7 @@ pub record KeepsNumbers (d : Depack) (state : Kept) : Type 0 where
 -- A depack keeps these numbers of what its client keeps.
 abbrev pub StandingKeepsNumbers : Type 0
 StandingKeepsNumbers =
-    (d : Depack) (c : ClientSettings) (came : List Arrival) → StandsFor d c came → KeepsNumbers d (kept c came)
+    (d : Depack) (c : ClientSettings) (came : List Arrival) → IsDepackOf d c came → KeepsNumbers d (kept c came)
 
 -- a datagram that moves the window on
 pub record MovesOn (moved : Moved) (c : ClientSettings) (came : List Arrival) (bytes : List ℕ) : Type 0 where

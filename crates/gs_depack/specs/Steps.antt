@@ -6,7 +6,7 @@ use Rattle.gs_depack.specs.declared.depack.Depack.{Depack}
 use Rattle.gs_depack.specs.Depack.{noted_kind, HasNoneAbove}
 
 -- a complete frame was put to its place, and the other places are as before
-pub record Puts (before now : Depack) (frame kind : ℕ) : Type 0 where
+pub record PutsFrame (before now : Depack) (frame kind : ℕ) : Type 0 where
   pub rest : now ≡ record before { frames = now.frames; kinds = now.kinds }
   pub its_frame : slice_index now.frames (frame % most_window) ≡ frame
   pub its_kind : slice_index now.kinds (frame % most_window) ≡ kind
@@ -43,12 +43,12 @@ pub record IsSettling (before now : Depack) : Type 0 where
   pub noted : (f : ℕ) → before.settled < f → f ≤ now.settled → noted_kind before f ≢ None
 
 -- as many as there are
-pub record IsSettled (before now : Depack) : Type 0 where
+pub record HasSettled (before now : Depack) : Type 0 where
   pub settling : IsSettling before now
   pub next : now.settled < before.greatest → noted_kind before (suc now.settled) ≡ None
 
 -- the frames that the greatest leaves are settled
-pub record Leaves (before now : Depack) (range : Range) : Type 0 where
+pub record LeavesRange (before now : Depack) (range : Range) : Type 0 where
   pub rest : now ≡ record before { settled = before.greatest - before.window }
   pub more : before.settled < before.greatest - before.window
   pub is_range : range ≡ record { first = suc before.settled; last = before.greatest - before.window }

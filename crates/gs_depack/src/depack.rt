@@ -1,15 +1,17 @@
 // Which frames are handed, and which are asked for.
 
-ghost use Rattle.std.specs.Prelude.{◌≡◌, ◌<◌, ◌≤◌, ◌+◌, ◌∷◌, ◌&&◌, ◌==◌, not, ℕ, List, [], Option, Some, None, IsTrue, MatchBool, MatchOption};
-ghost use Rattle.gs_frames.specs.Client.{ClientSettings, HasWindow, Arrival, Datagram, Reset, least_window, most_window};
+ghost use Rattle.std.specs.Prelude.{◌≡◌, ◌<◌, ◌≤◌, ◌+◌, ◌∷◌, ◌&&◌, ◌==◌, not, ℕ, List, [], Option, Some, None, IsTrue};
+ghost use Rattle.std.specs.Prelude.{MatchBool, MatchOption};
+ghost use Rattle.gs_frames.specs.Client.{ClientSettings, HasWindow, Arrival, Datagram, Reset, least_window};
+ghost use Rattle.gs_frames.specs.Client.{most_window};
 ghost use Rattle.gs_frames.specs.Received.{Received, taken};
 ghost use Rattle.gs_frames.specs.Complete.{IsComplete};
 ghost use Rattle.gs_frames.specs.Image.{Frame};
 ghost use Rattle.gs_frames.specs.Handed.{Handed, handed};
 ghost use Rattle.gs_frames.specs.Asks.{newly_asked};
 ghost use Rattle.gs_frames.specs.KeptLaws.{is_handed_next};
-ghost use Rattle.gs_depack.specs.Depack.{noted_kind, HasNoneAbove, Handing, StandsFor, HandsNext, HandsNone, IsMove};
-ghost use Rattle.gs_depack.specs.Steps.{Puts, IsAdvance, IsNote, IsSettled, Leaves, LeavesNone};
+ghost use Rattle.gs_depack.specs.Depack.{noted_kind, HasNoneAbove, Handing, IsDepackOf, HandsNext, HandsNone, IsMove};
+ghost use Rattle.gs_depack.specs.Steps.{PutsFrame, IsAdvance, IsNote, HasSettled, LeavesRange, LeavesNone};
 
 use gs_fecqueue::{Moved, WINDOW_GREATEST};
 use gs_frames::Range;
@@ -43,7 +45,7 @@ impl Depack {
     pub fn new(window: u8) -> Depack
         requires least { least_window ≤ window }
         requires greatest { window ≤ most_window }
-        ensures { (c : ClientSettings) → c.window ≡ window → StandsFor result c [] }
+        ensures { (c : ClientSettings) → c.window ≡ window → IsDepackOf result c [] }
     {
         Depack {
             window,
@@ -74,7 +76,7 @@ impl Depack {
 
     // Puts a complete frame to its place.
     fn put(&mut self, frame: u32, kind: u8)
-        ensures { Puts self.old self.new frame kind }
+        ensures { PutsFrame self.old self.new frame kind }
     {
         let place = frame as usize % WINDOW_GREATEST;
         self.frames[place] = frame;
@@ -94,7 +96,7 @@ impl Depack {
 
     // Leaves the frames that are the window below the greatest, and answers those of them that aren't settled.
     fn leave(&mut self) -> Option<Range>
-        ensures { MatchOption result (LeavesNone self.old self.new) (λ range. Leaves self.old self.new range) }
+        ensures { MatchOption result (LeavesNone self.old self.new) (λ range. LeavesRange self.old self.new range) }
     {
         let left = self.greatest.saturating_sub(u32::from(self.window));
         if left <= self.settled {
@@ -107,7 +109,7 @@ impl Depack {
 
     // Settles the complete frames behind the settled ones.
     fn settle(&mut self)
-        ensures { IsSettled self.old self.new }
+        ensures { HasSettled self.old self.new }
     {
         'settle: while self.settled < self.greatest && self.noted_as(self.settled + 1).is_some() {
             self.settled += 1;
@@ -118,10 +120,10 @@ impl Depack {
     /// to ask for. `from` is the `to` of the move before, 0 at first, and no frame waits to be handed.
     pub fn moved(&mut self, moved: &Moved) -> Option<Range>
         ensures asks { (c : ClientSettings) (came : List Arrival) (bytes : List ℕ) (r : Received) → HasWindow c
-            → StandsFor self.old c came → IsMove moved.now c came bytes r
+            → IsDepackOf self.old c came → IsMove moved.now c came bytes r
             → result ≡ newly_asked c (Datagram bytes) came }
         ensures hands { (c : ClientSettings) (came : List Arrival) (bytes : List ℕ) (r : Received) → HasWindow c
-            → StandsFor self.old c came → IsMove moved.now c came bytes r
+            → IsDepackOf self.old c came → IsMove moved.now c came bytes r
             → Handing self.new c (Datagram bytes ∷ came) (Some r.head.frame) (handed c came) }
     {
         self.advance(moved.to);
@@ -210,7 +212,8 @@ impl Depack {
 
     /// The decoder was reset: no frame but an IDR frame is handed until one was. No frame waits to be handed.
     pub fn reset(&mut self)
-        ensures { (c : ClientSettings) (came : List Arrival) → StandsFor self.old c came → StandsFor self.new c (Reset ∷ came) }
+        ensures { (c : ClientSettings) (came : List Arrival) → IsDepackOf self.old c came
+            → IsDepackOf self.new c (Reset ∷ came) }
     {
         self.waits_for_idr = true;
     }

@@ -1,16 +1,16 @@
 // Reading the image of a frame.
 
 ghost use Rattle.std.specs.Prelude.{◌≡◌, ◌≤◌, length, MatchOption};
-ghost use Rattle.gs_frames.specs.Image.{frame_of, header_length, is_frame_image, is_kind, kind_of, last_read, unit_length};
+ghost use Rattle.gs_frames.specs.Image.{frame_of, header_length, holds_frame, is_kind, kind_of, last_read};
+ghost use Rattle.gs_frames.specs.Image.{unit_length};
 ghost use Rattle.gs_depack.specs.ImageHead.{IsHeadOf};
 
 use byteorder::{ByteOrder, LittleEndian};
 use gs_frames::IMAGE_HEADER_LENGTH;
-use gs_rtp::{LAST_BLOCK_GREATEST, SHARDS_GREATEST};
+use gs_rtp::{BLOCKS_GREATEST, SHARDS_GREATEST};
 
 /// The most payloads of an image.
-pub const IMAGE_PACKETS_GREATEST: usize = (LAST_BLOCK_GREATEST as usize + 1)
-    * SHARDS_GREATEST as usize;
+pub const IMAGE_PACKETS_GREATEST: usize = BLOCKS_GREATEST * SHARDS_GREATEST as usize;
 
 // The first byte of each image.
 const MARK: u8 = 1;
@@ -55,7 +55,7 @@ fn spelled(kind: u8) -> u8
 
 // Whether the bytes are whole payloads of the size behind a header in order.
 fn is_image(image: &[u8], payload: usize) -> bool
-    ensures { result ≡ is_frame_image payload image.now }
+    ensures { result ≡ holds_frame payload image.now }
 {
     if payload < IMAGE_HEADER_LENGTH || image.len() % payload != 0 {
         return false;

@@ -14,5 +14,7 @@ mod laws;
 mod tests;
 
 pub use depack::Depack;
+pub use gs_fecqueue::Moved;
+pub use gs_frames::Range;
 pub use image::{IMAGE_PACKETS_GREATEST, ImageHead, read_image};
 pub use laws::{queue_tells_moves, untold_arrivals};

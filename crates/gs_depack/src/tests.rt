@@ -177,3 +177,66 @@ fn asks_for_a_frame_whose_image_is_none(rt: HostRuntime) -> Result<(), Fail> {
     }
     Ok(())
 }
+
+// A datagram of a frame of two packets, of this kind, whose unit is 1,500 zeros.
+fn half(frame: u8, kind: u8, is_second: bool) -> [u8; 1_040] {
+    let mut bytes = [0; 1_040];
+    let index = if is_second { 0x10 } else { 0 };
+    bytes[..32].copy_from_slice(&[
+        0x90, 0, 0, 0, 0, 0, 0, 0, 0, 0, 0, 1, 0, 0, 0, 0, 0, 0, 0, 0, frame, 0, 0, 0, 1, 0, 0x10,
+        0, 0, index, 0x80, 0,
+    ]);
+    if !is_second {
+        bytes[32..40].copy_from_slice(&[1, 0, 0, kind, 0xF4, 1, 0, 0]);
+    }
+    bytes
+}
+
+#[test]
+fn hands_what_needs_no_lost_frame(rt: HostRuntime) -> Result<(), Fail> {
+    let settings = Settings::make(1_024, 0, 0, 60, 5, 0, 1).ok_or("settings")?;
+    let mut queue = Queue::new(rt.alloc(), &settings, 1)?;
+    let mut depack = Depack::new(1);
+    // a datagram, the verdict, and the range asked for and the frame handed with it: half of frame 1 comes late, and
+    // half of frame 3 and all of frame 5 never come; frame 4 needs frame 3
+    let rows = [
+        (half(1, 2, false), Added::Added, None, None),
+        (
+            half(2, 2, false),
+            Added::Added,
+            Some(Range { first: 1, last: 1 }),
+            None,
+        ),
+        (half(1, 2, true), Added::Old { current: 2 }, None, None),
+        (half(2, 2, true), Added::FrameWhole, None, Some(2)),
+        (half(3, 1, false), Added::Added, None, None),
+        (
+            half(4, 1, false),
+            Added::Added,
+            Some(Range { first: 3, last: 3 }),
+            None,
+        ),
+        (half(4, 1, true), Added::FrameWhole, None, None),
+        (
+            half(6, 5, true),
+            Added::Added,
+            Some(Range { first: 5, last: 5 }),
+            None,
+        ),
+        (half(6, 5, false), Added::FrameWhole, None, Some(6)),
+    ];
+    for (datagram, what, asked, handed) in rows {
+        let outcome = queue.add(&datagram);
+        assert_eq!(rt; outcome.what, what);
+        let ask = outcome.moved.and_then(|moved| depack.moved(&moved));
+        assert_eq!(rt; ask, asked);
+        if what == Added::FrameWhole {
+            let frame = u32::from(datagram[20]);
+            let head = read_image(queue.image(frame), 1_008).ok_or("an image")?;
+            assert_eq!(rt; head.length, 1_500);
+            depack.note(frame, head.kind);
+        }
+        assert_eq!(rt; depack.next(), handed);
+    }
+    Ok(())
+}

@@ -23,21 +23,18 @@ use Rattle.gs_enet.specs.Receive.{leave_if, leaving, is_named, acknowledged, ack
 use Rattle.gs_enet.specs.Receive.{takes_messages, expected, distance, is_behind, message_if, taken_if, message_came, is_connect_content, is_connect, verify_if}
 use Rattle.gs_enet.specs.Receive.{verified, verify_came}
 use Rattle.gs_enet.specs.Steps.{next_number, is_full, is_open, with_message, close_if, closed, placed, first_event, next_event, telling, timed_if, timed_at}
-use Rattle.gs_enet.specs.Steps.{name_of, is_lost, due_again}
+use Rattle.gs_enet.specs.Steps.{name_of, had_last_wait, due_again}
 use Rattle.gs_enet.specs.Window.{unacknowledged, in_window, front_is_held}
 use Rattle.gs_enet.specs.Channels.{next_of, channel_held, all_held, is_channel_full, AreEmpty, GivesOne, SameHeld, MarksDue, DropsNamed}
 use Rattle.gs_enet.specs.Controls.{content_of, unacknowledged_control, control_held, is_closing, is_accepting}
 use Rattle.gs_enet.specs.Events.{IsQuiet}
-use Rattle.gs_enet.specs.Standing.{HasCounts, StandsFor, held_by}
+use Rattle.gs_enet.specs.Standing.{HasCounts, IsPeerOf, held_by}
 use Rattle.gs_enet.specs.declared.peer.Peer.{Peer}
 use Rattle.gs_enet.proofs.Lists.{Each, each_weaker, each_append, each_find}
 use Rattle.gs_enet.proofs.Kept.{IsNoMessage, messages_on-other, messages_on-message, messages_on-apart, giving, given_on-own, given_on-apart}
 use Rattle.gs_enet.proofs.Flat.{before, behind, split_at, split_set, before-below, behind-from, placed_last, same_counts, all_held-from, all_held-below}
-use Rattle.gs_enet.proofs.Flat.{channel_held-on, IsOn, IsMessage, IsBelow, IsFrom}
+use Rattle.gs_enet.proofs.Flat.{channel_held-on, IsOn, IsMessage, IsBelow, IsFrom, find_past}
 use Rattle.gs_enet.proofs.Standings.{counts_set, sends_none, sizes, control-on}
-
-find_past : (test : Unacknowledged → Bool) (xs ys : List Unacknowledged) → find test xs ≡ None → find test (xs ++ ys) ≡ find test ys
-find_past test xs ys none = find-append test xs ys ∙ ap (λ (o : Option Unacknowledged). option_or o (find test ys)) none
 
 find_before : (test : Unacknowledged → Bool) (xs ys : List Unacknowledged) → find test ys ≡ None → find test (xs ++ ys) ≡ find test xs
 find_before test xs ys none = find-append test xs ys ∙ ap (option_or (find test xs)) none ∙ or_none (find test xs) where
@@ -112,7 +109,7 @@ channel_named p c number d below =
     )
 
 -- a message of a channel is acknowledged: what it leaves, before the side may leave
-pub channel_drops : (p : Peer) (r : PeerRecord) (c place number : ℕ) (old new : Channel) → StandsFor p r → c < 48 → place ≡ c
+pub channel_drops : (p : Peer) (r : PeerRecord) (c place number : ℕ) (old new : Channel) → IsPeerOf p r → c < 48 → place ≡ c
     → old ≡ get_or p.channels.items place old → DropsNamed number true old new
     → (acknowledge_came c number r ≡ leaving (dropped c number r)) × HasCounts (dropped c number r) (set p.channels.items place new)
     × ((dropped c number r).unacknowledged ≡ control_held p.control ++ all_held 0 (set p.channels.items place new))
@@ -143,7 +140,7 @@ channel_drops p r c place number old new s below at was drops =
     message_leaves VerifyConnect h t = absurd h
     message_leaves Disconnect h t = absurd h
 
-pub channel_keeps : (p : Peer) (r : PeerRecord) (c place number : ℕ) (old new : Channel) → StandsFor p r → c < 48 → place ≡ c
+pub channel_keeps : (p : Peer) (r : PeerRecord) (c place number : ℕ) (old new : Channel) → IsPeerOf p r → c < 48 → place ≡ c
     → old ≡ get_or p.channels.items place old → DropsNamed number false old new
     → (acknowledge_came c number r ≡ r) × HasCounts r (set p.channels.items place new)
     × (r.unacknowledged ≡ control_held p.control ++ all_held 0 (set p.channels.items place new))
@@ -162,7 +159,7 @@ channel_keeps p r c place number old new s below at was drops =
     (ack_none c number r lost, kept.0, kept.1)
 
 -- neither the control channel nor a channel of messages
-pub nowhere_named : (p : Peer) (r : PeerRecord) (c number : ℕ) → StandsFor p r → 48 ≤ c → (c ≡ 255 → ⊥) → acknowledge_came c number r ≡ r
+pub nowhere_named : (p : Peer) (r : PeerRecord) (c number : ℕ) → IsPeerOf p r → 48 ≤ c → (c ≡ 255 → ⊥) → acknowledge_came c number r ≡ r
 nowhere_named p r c number s above apart =
     let k = unnamed c number (λ (v : Unacknowledged). v.order.channel ≡ 255) (λ u at e. apart (sym e ∙ at)) (control_held p.control) (control-on p.control) in
     let m = unnamed c number (IsBelow 48) (λ u h e. omega (arith, h.0, e, above)) (all_held 0 p.channels.items)
@@ -171,7 +168,7 @@ nowhere_named p r c number s above apart =
     (all_held 0 p.channels.items) k.0 ∙ m.0)
 
 -- the control channel's command
-pub control_kept : (p : Peer) (r : PeerRecord) (number : ℕ) → StandsFor p r → find (is_named 255 number) (control_held p.control) ≡ None
+pub control_kept : (p : Peer) (r : PeerRecord) (number : ℕ) → IsPeerOf p r → find (is_named 255 number) (control_held p.control) ≡ None
     → acknowledge_came 255 number r ≡ r
 control_kept p r number s none =
     let m = unnamed 255 number (IsBelow 48) (λ u h e. omega (arith, h.0, e)) (all_held 0 p.channels.items)
@@ -179,7 +176,7 @@ control_kept p r number s none =
     ack_none 255 number r (ap (find (is_named 255 number)) s.unacknowledged
     ∙ find_past (is_named 255 number) (control_held p.control) (all_held 0 p.channels.items) none ∙ m.0)
 
-pub control_dropped : (p : Peer) (r : PeerRecord) (number : ℕ) (k : Control) → StandsFor p r → p.control ≡ Some k → (k.number % 65536 == number) ≡ true
+pub control_dropped : (p : Peer) (r : PeerRecord) (number : ℕ) (k : Control) → IsPeerOf p r → p.control ≡ Some k → (k.number % 65536 == number) ≡ true
     → (acknowledge_came 255 number r ≡ acknowledged (content_of k.kind) (dropped 255 number r))
     × ((dropped 255 number r).unacknowledged ≡ control_held None ++ all_held 0 p.channels.items)
 control_dropped p r number k s is hit =
@@ -215,7 +212,7 @@ connected-accepting r s is e = connected_if r.state r (ap is_accepting is ∙ e)
 pub connected-other : (r : PeerRecord) (s : PeerState) → r.state ≡ s → is_accepting s ≡ false → connected r.state r ≡ r
 connected-other r s is e = connected_not r.state r (ap is_accepting is ∙ e)
 
-pub control_unnamed : (p : Peer) (r : PeerRecord) (number : ℕ) (k : Control) → StandsFor p r → p.control ≡ Some k → (k.number ≡ number → ⊥)
+pub control_unnamed : (p : Peer) (r : PeerRecord) (number : ℕ) (k : Control) → IsPeerOf p r → p.control ≡ Some k → (k.number ≡ number → ⊥)
     → acknowledge_came 255 number r ≡ r
 control_unnamed p r number k s is apart =
     control_kept p r number s

@@ -5,25 +5,25 @@ use Rattle.std.specs.Prelude.{◌==◌, ◌&&◌, nat_lt, nat_le}
 use Rattle.std.specs.List.{filter, find, list_any}
 use Rattle.std.proofs.lemmas.Bool.{and_parts, or_parts, not-true, ltb-true, false≢true}
 use Rattle.std.proofs.lemmas.List.{append_assoc, append-nil}
-use Rattle.gs_enet_wire.specs.Grammar.{command_spelling}
 use Rattle.gs_enet.specs.declared.event.PeerEvent.{PeerEvent}
 use Rattle.gs_enet.specs.declared.event.PeerEvent.TheVariants as event
 use Rattle.gs_enet.specs.declared.state.PeerState.{PeerState}
 use Rattle.gs_enet.specs.declared.state.PeerState.TheVariants as state
 use Rattle.gs_enet.specs.declared.answer.Answer.{Answer}
-use Rattle.gs_enet.specs.Record.{PeerRecord, Unacknowledged, Disconnect, Order, channels, control, datagram_room, last_number, given_on, heard, orders, is_shut}
+use Rattle.gs_enet.specs.Record.{PeerRecord, Unacknowledged, Disconnect, Order, channels, control, last_number, given_on, heard, orders, is_shut}
 use Rattle.gs_enet.specs.Record.{shut, happened, at_moment}
 use Rattle.gs_enet.specs.Receive.{leave_if}
 use Rattle.gs_enet.specs.Steps.{next_number, is_full, is_open, can_send, with_message, close_if, closed, telling, told_next, due_again, timed_if, timed}
-use Rattle.gs_enet.specs.Steps.{is_lost}
-use Rattle.gs_enet.specs.Write.{Item, Answers, Orders, item_command, due_if, is_due, going_out, fitting, next_items, header_room, written_once, first_written}
+use Rattle.gs_enet.specs.Steps.{had_last_wait}
+use Rattle.gs_enet.specs.Write.{Item, Answers, Orders, next_items, written_once, first_written}
 use Rattle.gs_enet.specs.Write.{wrote_next}
-use Rattle.gs_enet.specs.World.{Written, Side, Act, Send, Close, Tell, Time, Write, sent_if, one_written, acted}
-use Rattle.gs_enet.proofs.Lists.{Each, each_weaker, each_map, each_unmap, each_push, each_append, each_filter, each_drop, each_fails}
+use Rattle.gs_enet.specs.World.{Written, Side, WorldAct, Send, Close, Tell, Time, Write, sent_if, one_written, acted}
+use Rattle.gs_enet.proofs.Lists.{Each, each_weaker, each_unmap, each_push, each_filter, each_drop, each_fails}
 use Rattle.gs_enet.proofs.Kept.{Kept, IsDone, IsOver, IsShut, IsHeld, Has, IsTrueAnswer, IsTrueOrder, AnswersTruly, OrdersOut, AnswersOut, IsNoMessage}
 use Rattle.gs_enet.proofs.Kept.{count_of}
 use Rattle.gs_enet.proofs.Moves.{moves, turns, hears_other, owes, is_held_more}
 use Rattle.gs_enet.proofs.Giving.{order_of, gives, room_from_tests}
+use Rattle.gs_enet.proofs.WrittenMessages.{each_next}
 
 -- what one side gives and the other hears
 abbrev pub Gives : PeerRecord → List Written → PeerRecord → List Written → Type 0
@@ -35,7 +35,7 @@ Both s ws o wo = Gives s ws o wo × Gives o wo s ws
 
 -- ---- send
 
-open_is_not_over : (s : PeerState) → is_open s ≡ true → IsOver s → ⊥
+pub open_is_not_over : (s : PeerState) → is_open s ≡ true → IsOver s → ⊥
 open_is_not_over state.Connected e h = h
 open_is_not_over state.Connecting e h = h
 open_is_not_over state.Accepting e h = h
@@ -101,7 +101,7 @@ close_both state.Shut s ws o wo is k = k
 -- ---- the next event
 
 -- the same, heard in the same order
-same_heard : (es fs : List PeerEvent) → es ≡ fs → (s : PeerRecord) (ws : List Written) (o : PeerRecord) (wo : List Written)
+pub same_heard : (es fs : List PeerEvent) → es ≡ fs → (s : PeerRecord) (ws : List Written) (o : PeerRecord) (wo : List Written)
     → Kept s.given (orders s) s.state es ws (heard o) o.pending o.state wo × Kept o.given (orders o) o.state (heard o) wo es s.pending s.state ws
     → Kept s.given (orders s) s.state fs ws (heard o) o.pending o.state wo × Kept o.given (orders o) o.state (heard o) wo fs s.pending s.state ws
 same_heard es fs e s ws o wo k =
@@ -141,7 +141,7 @@ shut_both e s ws o wo k quiet closed peer_closed =
 
 -- ---- time
 
-orders-due_again : (now : ℕ) (us : List Unacknowledged) → map order_of (map (due_again now) us) ≡ map order_of us
+pub orders-due_again : (now : ℕ) (us : List Unacknowledged) → map order_of (map (due_again now) us) ≡ map order_of us
 orders-due_again now [] = refl
 orders-due_again now (u ∷ us) = ap (λ (x : List Order). u.order ∷ x) (orders-due_again now us)
 
@@ -163,32 +163,7 @@ time_both false (Some u) s ws o wo k =
 
 -- ---- the next datagram
 
-each_fitting : (P : Item → Type 0) (r : PeerRecord) (room : ℕ) (xs : List Item) → Each P xs → Each P (fitting r room xs)
-each_fitting P r room [] h = tt
-each_fitting P r room (x ∷ xs) h =
-    here (length (command_spelling (item_command r x))) (each_fitting P r (room - length (command_spelling (item_command r x))) xs h.1) where
-      here : (n : ℕ) → Each P (fitting r (room - n) xs) → Each P (cond (nat_le n room) (x ∷ fitting r (room - n) xs) [])
-      here n later = fits (nat_le n room) where
-        fits : (b : Bool) → Each P (cond b (x ∷ fitting r (room - n) xs) [])
-        fits true = (h.0, later)
-        fits false = tt
-
-each_due : (P : Unacknowledged → Type 0) (over : Bool) (us : List Unacknowledged) → Each P us → Each P (due_if over us)
-each_due P true us h = tt
-each_due P false us h = each_filter P is_due us h
-
--- what holds of each answer that is owed and of each command that is held
-each_going_out : (P : Item → Type 0) (s : PeerRecord) → Each (λ a. P (Answers a)) s.pending → Each (λ (u : Unacknowledged). P (Orders u.order)) s.unacknowledged
-    → Each P (next_items s)
-unfolding next_items
-each_going_out P s answers held =
-    each_fitting P s (datagram_room - header_room) (going_out s)
-    (each_append P (map Answers s.pending) (map (λ (u : Unacknowledged). Orders u.order) (due_if (is_shut s.state) s.unacknowledged))
-    (each_map P Answers s.pending answers)
-    (each_map P (λ (u : Unacknowledged). Orders u.order) (due_if (is_shut s.state) s.unacknowledged)
-    (each_due (λ (u : Unacknowledged). P (Orders u.order)) (is_shut s.state) s.unacknowledged held)))
-
-orders-first_written : (now n : ℕ) (us : List Unacknowledged) → map order_of (first_written now n us) ≡ map order_of us
+pub orders-first_written : (now n : ℕ) (us : List Unacknowledged) → map order_of (first_written now n us) ≡ map order_of us
 orders-first_written now n [] = refl
 orders-first_written now zero (u ∷ us) = refl
 orders-first_written now (suc n) (u ∷ us) = here u.due (orders-first_written now n us) (orders-first_written now (suc n) us) where
@@ -236,9 +211,9 @@ write_both now s ws o wo k =
     let xs : List Item = next_items t in
     let n : ℕ = length xs in
     let answers_true : Each (AnswersTruly (heard s)) xs =
-    each_going_out (AnswersTruly (heard s)) t k.1.owed (nothing s.unacknowledged) in
+    each_next (AnswersTruly (heard s)) t k.1.owed (nothing s.unacknowledged) in
     let orders_true : Each (IsTrueOrder s.given (heard o) s.state) xs =
-    each_going_out (IsTrueOrder s.given (heard o) s.state) t (no_order s.pending)
+    each_next (IsTrueOrder s.given (heard o) s.state) t (no_order s.pending)
     (each_weaker (λ (u : Unacknowledged). IsHeld s.given (heard o) s.state u.order)
     (λ (u : Unacknowledged). IsTrueOrder s.given (heard o) s.state (Orders u.order)) (λ u h. h.0)
     s.unacknowledged (each_unmap (IsHeld s.given (heard o) s.state) order_of s.unacknowledged k.0.held)) in
@@ -260,11 +235,11 @@ write_both now s ws o wo k =
 
 -- ---- any act
 
-pub act_both : (act : Act) (s o : Side) → Both s.peer s.wrote o.peer o.wrote → Both (acted act s).peer (acted act s).wrote o.peer o.wrote
+pub act_both : (act : WorldAct) (s o : Side) → Both s.peer s.wrote o.peer o.wrote → Both (acted act s).peer (acted act s).wrote o.peer o.wrote
 unfolding closed told_next timed
 act_both (Send c bytes) s o k = sent_both (nat_lt c channels && can_send s.peer c) c bytes s.peer s.wrote o.peer o.wrote refl k
 act_both Close s o k = close_both s.peer.state s.peer s.wrote o.peer o.wrote refl k
 act_both Tell s o k = tell_both s.peer.waiting s.peer s.wrote o.peer o.wrote refl k
 act_both (Time now) s o k =
-    time_both (is_shut s.peer.state) (find (is_lost (at_moment now s.peer).now) s.peer.unacknowledged) (at_moment now s.peer) s.wrote o.peer o.wrote k
+    time_both (is_shut s.peer.state) (find (had_last_wait (at_moment now s.peer).now) s.peer.unacknowledged) (at_moment now s.peer) s.wrote o.peer o.wrote k
 act_both (Write now) s o k = write_both now s.peer s.wrote o.peer o.wrote k

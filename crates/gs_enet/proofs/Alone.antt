@@ -7,7 +7,8 @@ use Rattle.std.proofs.lemmas.List.{append_assoc, append-nil, length-append}
 use Rattle.gs_enet.specs.declared.event.PeerEvent.{PeerEvent}
 use Rattle.gs_enet.specs.declared.event.PeerEvent.TheVariants as event
 use Rattle.gs_enet.specs.declared.state.PeerState.{PeerState}
-use Rattle.gs_enet.specs.Record.{PeerRecord, Unacknowledged, Content, Connect, VerifyConnect, Disconnect, Message, Order, Given, channels, control, fresh}
+use Rattle.gs_enet.specs.Record.{PeerRecord, Unacknowledged, Content, Connect, VerifyConnect, Disconnect, Message, Order, GivenMessage, channels, control}
+use Rattle.gs_enet.specs.Record.{fresh}
 use Rattle.gs_enet.specs.Record.{given_on}
 use Rattle.gs_enet.specs.Steps.{placed}
 use Rattle.gs_enet.specs.Write.{Item, Answers, Orders}
@@ -15,13 +16,14 @@ use Rattle.gs_enet.specs.World.{Written, one_written}
 use Rattle.gs_enet.proofs.Lists.{Each, each_weaker, each_push, each_filter, each_both}
 use Rattle.gs_enet.proofs.Kept.{IsOver, giving, given_on-own, given_on-apart}
 use Rattle.gs_enet.proofs.Rising.{Numbered, numbered, Rising, rising_after, rising_push}
-use Rattle.gs_enet.proofs.HeldMessages.{order_of, message_of, held_on, due_on, gather, held_apart, due_apart, Sorted, each_placed, each_put, each_kept}
+use Rattle.gs_enet.proofs.HeldMessages.{message_of, held_on, due_on, gather, held_apart, due_apart, Sorted, each_placed, each_kept}
 use Rattle.gs_enet.proofs.HeldMessages.{sorted_placed}
 use Rattle.gs_enet.proofs.HeldMessages.{sorted_kept, gather_placed, gather_placed_apart, gather_same, rising_kept}
 use Rattle.gs_enet.proofs.WrittenMessages.{item_messages, put_messages, put_messages-push}
+use Rattle.gs_enet.proofs.Giving.{each_put, order_of}
 
 -- the side is closing or shut, and each message of the channel was acknowledged
-abbrev pub Gone : ℕ → ℕ → List Given → PeerState → Type 0
+abbrev pub Gone : ℕ → ℕ → List GivenMessage → PeerState → Type 0
 Gone c acks gv st = IsOver st × (length (given_on c gv) ≤ acks)
 
 abbrev pub IsLeave : Content → Type 0
@@ -43,7 +45,8 @@ IsTimed m u = (u.due ≡ true) ⊎ (u.written ≡ m)
 
 -- Of one channel, with so many acknowledgements of it read, and with m the one moment: what was given, the commands that are held,
 -- the state, what was heard, what was written, and the last moment.
-pub record Alone (c now m acks : ℕ) (gv : List Given) (us : List Unacknowledged) (st : PeerState) (hd : List PeerEvent) (ws : List Written) (at : ℕ) : Type 0
+pub record Alone (c now m acks : ℕ) (gv : List GivenMessage) (us : List Unacknowledged) (st : PeerState) (hd : List PeerEvent) (ws : List Written)
+    (at : ℕ) : Type 0
   where
     pub outside : channels ≤ c → given_on c gv ≡ []
     pub clock : max at now ≡ m
@@ -72,7 +75,7 @@ held_weaker G H f os = each_weaker (λ (o : Order). IsLeave o.content → G) (λ
 
 -- ---- another state, more acknowledgements, other events
 
-pub alone_turns : {c now m acks : ℕ} {gv : List Given} {us : List Unacknowledged} {st : PeerState} {hd : List PeerEvent} {ws : List Written} {at : ℕ}
+pub alone_turns : {c now m acks : ℕ} {gv : List GivenMessage} {us : List Unacknowledged} {st : PeerState} {hd : List PeerEvent} {ws : List Written} {at : ℕ}
     (acks' : ℕ) (st' : PeerState) (hd' : List PeerEvent) → Alone c now m acks gv us st hd ws at → acks ≤ acks' → (IsOver st → IsOver st')
     → (Contains hd' event.Closed → Contains hd event.Closed ⊎ Gone c acks' gv st')
     → Alone c now m acks' gv us st' hd' ws at
@@ -93,12 +96,12 @@ alone_turns {c = c} {acks = acks} {gv = gv} {us = us} {st = st} {ws = ws} acks' 
     }
 
 -- more acknowledgements
-pub alone_more : {c now m acks : ℕ} {gv : List Given} {us : List Unacknowledged} {st : PeerState} {hd : List PeerEvent} {ws : List Written} {at : ℕ}
+pub alone_more : {c now m acks : ℕ} {gv : List GivenMessage} {us : List Unacknowledged} {st : PeerState} {hd : List PeerEvent} {ws : List Written} {at : ℕ}
     (acks' : ℕ) → Alone c now m acks gv us st hd ws at → acks ≤ acks' → Alone c now m acks' gv us st hd ws at
 alone_more {st = st} {hd = hd} acks' k more = alone_turns acks' st hd k more (λ h. h) (λ has. inl has)
 
 -- another moment
-pub alone_at : {c now m acks : ℕ} {gv : List Given} {us : List Unacknowledged} {st : PeerState} {hd : List PeerEvent} {ws : List Written} {at : ℕ}
+pub alone_at : {c now m acks : ℕ} {gv : List GivenMessage} {us : List Unacknowledged} {st : PeerState} {hd : List PeerEvent} {ws : List Written} {at : ℕ}
     (at' : ℕ) → max at' now ≡ m → Alone c now m acks gv us st hd ws at → Alone c now m acks gv us st hd ws at'
 alone_at at' clock k =
     record {
@@ -117,7 +120,7 @@ alone_at at' clock k =
 
 -- ---- commands are dropped
 
-pub alone_drops : {c now m acks : ℕ} {gv : List Given} {us : List Unacknowledged} {st : PeerState} {hd : List PeerEvent} {ws : List Written} {at : ℕ}
+pub alone_drops : {c now m acks : ℕ} {gv : List GivenMessage} {us : List Unacknowledged} {st : PeerState} {hd : List PeerEvent} {ws : List Written} {at : ℕ}
     (acks' : ℕ) (test : Unacknowledged → Bool) → Alone c now m acks gv us st hd ws at → acks ≤ acks'
     → length (gather (held_on c) us) + acks ≤ length (gather (held_on c) (filter test us)) + acks'
     → Alone c now m acks' gv (filter test us) st hd ws at
@@ -140,7 +143,7 @@ alone_drops {c = c} {acks = acks} {gv = gv} {us = us} {st = st} {hd = hd} {ws = 
 
 -- ---- the disconnect
 
-pub alone_leaves : {c now m acks : ℕ} {gv : List Given} {us : List Unacknowledged} {st : PeerState} {hd : List PeerEvent} {ws : List Written} {at : ℕ}
+pub alone_leaves : {c now m acks : ℕ} {gv : List GivenMessage} {us : List Unacknowledged} {st : PeerState} {hd : List PeerEvent} {ws : List Written} {at : ℕ}
     (n : ℕ) → us ≡ [] → IsOver st → Alone c now m acks gv us st hd ws at → Alone c now m acks gv (fresh Disconnect control n ∷ []) st hd ws at
 alone_leaves {c = c} {acks = acks} {gv = gv} {us = us} {st = st} {ws = ws} n none over k =
     let all : length (given_on c gv) ≤ acks = omega (arith, k.counted, ap (λ (x : List Unacknowledged). length (gather (held_on c) x)) none) in
@@ -169,7 +172,7 @@ near_more c size os =
     each_weaker (λ (o : Order). IsNearOwn c size o × (o.channel ≡ c → size + 1 < o.number + 256)) (IsNearOwn c (size + 1))
     (λ o h same. (omega (arith, (h.0 same).0), omega (arith, h.1 same))) os
 
-gives_own : {c now m acks : ℕ} {gv : List Given} {us : List Unacknowledged} {st : PeerState} {hd : List PeerEvent} {ws : List Written} {at : ℕ}
+gives_own : {c now m acks : ℕ} {gv : List GivenMessage} {us : List Unacknowledged} {st : PeerState} {hd : List PeerEvent} {ws : List Written} {at : ℕ}
     (bytes : List ℕ) → Alone c now m acks gv us st hd ws at → (IsOver st → ⊥) → c < channels
     → Each (λ (o : Order). o.channel ≡ c → length (given_on c gv) + 1 < o.number + 256) (map order_of us)
     → Alone c now m acks (gv ++ giving c bytes) (placed (fresh (Message bytes) c (length (given_on c gv) + 1)) us) st hd ws at
@@ -210,7 +213,7 @@ gives_own {c = c} {m = m} {acks = acks} {gv = gv} {us = us} {st = st} {ws = ws} 
       left_heard = λ has. absurd (up (k.left_heard has).0);
     }
 
-gives_apart : {c now m acks : ℕ} {gv : List Given} {us : List Unacknowledged} {st : PeerState} {hd : List PeerEvent} {ws : List Written} {at : ℕ}
+gives_apart : {c now m acks : ℕ} {gv : List GivenMessage} {us : List Unacknowledged} {st : PeerState} {hd : List PeerEvent} {ws : List Written} {at : ℕ}
     (d n : ℕ) (bytes : List ℕ) → Alone c now m acks gv us st hd ws at → (d ≡ c → ⊥)
     → Alone c now m acks (gv ++ giving d bytes) (placed (fresh (Message bytes) d n) us) st hd ws at
 gives_apart {c = c} {m = m} {acks = acks} {gv = gv} {us = us} {st = st} {ws = ws} d n bytes k apart =
@@ -238,7 +241,7 @@ gives_apart {c = c} {m = m} {acks = acks} {gv = gv} {us = us} {st = st} {ws = ws
     }
 
 -- a message on a channel whose held commands are all among the last 255
-pub alone_gives : {c now m acks : ℕ} {gv : List Given} {us : List Unacknowledged} {st : PeerState} {hd : List PeerEvent} {ws : List Written} {at : ℕ}
+pub alone_gives : {c now m acks : ℕ} {gv : List GivenMessage} {us : List Unacknowledged} {st : PeerState} {hd : List PeerEvent} {ws : List Written} {at : ℕ}
     (d : ℕ) (bytes : List ℕ) → Alone c now m acks gv us st hd ws at → (IsOver st → ⊥) → d < channels
     → Each (λ (o : Order). o.channel ≡ d → length (given_on d gv) + 1 < o.number + 256) (map order_of us)
     → Alone c now m acks (gv ++ giving d bytes) (placed (fresh (Message bytes) d (length (given_on d gv) + 1)) us) st hd ws at
@@ -252,7 +255,7 @@ alone_gives {c = c} {now = now} {m = m} {acks = acks} {gv = gv} {us = us} {st = 
 
 -- ---- the same commands, due as before
 
-pub alone_keeps : {c now m acks : ℕ} {gv : List Given} {us : List Unacknowledged} {st : PeerState} {hd : List PeerEvent} {ws : List Written} {at : ℕ}
+pub alone_keeps : {c now m acks : ℕ} {gv : List GivenMessage} {us : List Unacknowledged} {st : PeerState} {hd : List PeerEvent} {ws : List Written} {at : ℕ}
     (us' : List Unacknowledged) (by : PeerRecord) (xs : List Item) (at' : ℕ) → Alone c now m acks gv us st hd ws at → max at' now ≡ m
     → map order_of us' ≡ map order_of us
     → Each (IsTimed m) us' → item_messages c xs ++ gather (due_on c) us' ≡ gather (due_on c) us

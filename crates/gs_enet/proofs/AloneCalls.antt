@@ -3,7 +3,7 @@ use Rattle.std.proofs.Common.{◌≡◌, ◌<◌, ◌≤◌, ◌+◌, ◌-◌, �
 use Rattle.std.proofs.Common.{Some, None, refl, sym, ap, subst, ◌∙◌, arith, inl, inr}
 use Rattle.std.specs.Prelude.{◌==◌, ◌&&◌, ◌||◌, nat_lt, nat_le, Contains}
 use Rattle.std.specs.List.{find, list_any}
-use Rattle.std.proofs.lemmas.Bool.{and_parts, or_parts, or_left, and_left, and_right, not-true, ltb-true, leb-false, lt-leb, and_cases, false≢true, eq-eqb}
+use Rattle.std.proofs.lemmas.Bool.{and_parts, or_parts, or_left, and_left, and_right, not-true, ltb-true, lt-leb, false≢true}
 use Rattle.std.proofs.lemmas.Bool.{cond-false}
 use Rattle.std.proofs.lemmas.Nat.{pow_pos}
 use Rattle.std.proofs.lemmas.List.{append_assoc, append-nil}
@@ -18,35 +18,23 @@ use Rattle.gs_enet.specs.Record.{heard, is_shut, happened, at_moment}
 use Rattle.gs_enet.specs.Receive.{leave_if}
 use Rattle.gs_enet.specs.Steps.{next_number, is_full, is_open, can_send, with_message, close_if, telling, first_wait, longest_wait}
 use Rattle.gs_enet.specs.Steps.{wait_after, most_writes}
-use Rattle.gs_enet.specs.Steps.{has_waited, is_lost, due_again, timed_if, timed}
+use Rattle.gs_enet.specs.Steps.{has_waited, had_last_wait, due_again, timed_if, timed}
 use Rattle.gs_enet.specs.Write.{Answers, next_items, written_once, first_written, wrote_next}
 use Rattle.gs_enet.specs.World.{Written, sent_if, one_written}
 use Rattle.gs_enet.proofs.Lists.{Each, each_weaker, each_map, each_unmap, each_fails}
 use Rattle.gs_enet.proofs.Kept.{IsOver}
 use Rattle.gs_enet.proofs.Rising.{Numbered}
-use Rattle.gs_enet.proofs.HeldMessages.{order_of, held_on, due_on, gather}
+use Rattle.gs_enet.proofs.HeldMessages.{held_on, due_on, gather}
 use Rattle.gs_enet.proofs.WrittenMessages.{each_next, next_messages}
 use Rattle.gs_enet.proofs.Alone.{Gone, IsLeave, LeaveOnly, IsTimed, Alone, alone_turns, alone_at, alone_leaves, alone_gives}
 use Rattle.gs_enet.proofs.Alone.{alone_keeps}
+use Rattle.gs_enet.proofs.Giving.{order_of, room_from_test}
+use Rattle.gs_enet.proofs.Acts.{open_is_not_over, orders-due_again, orders-first_written}
 
 abbrev pub Giver : ℕ → ℕ → ℕ → ℕ → PeerRecord → List Written → Type 0
 Giver c now m acks r ws = Alone c now m acks r.given r.unacknowledged r.state (heard r) ws r.now
 
 -- ---- send
-
-open_is_not_over : (s : PeerState) → is_open s ≡ true → IsOver s → ⊥
-open_is_not_over state.Connected e h = h
-open_is_not_over state.Connecting e h = h
-open_is_not_over state.Accepting e h = h
-open_is_not_over state.Closing e h = absurd (false≢true e)
-open_is_not_over state.Shut e h = absurd (false≢true e)
-
-room_from_test : (d next : ℕ) (u : Unacknowledged) → ((u.order.channel == d) && nat_le (u.order.number + 256) next) ≡ false → u.order.channel ≡ d
-    → next < u.order.number + 256
-room_from_test d next u e same = elim (and_cases (u.order.channel == d) (nat_le (u.order.number + 256) next) e) [
-  | inl apart ↦ absurd (false≢true (sym apart ∙ eq-eqb u.order.channel d same))
-  | inr small ↦ leb-false (u.order.number + 256) next small
-]
 
 pub giver_sent : (c now m acks : ℕ) (b : Bool) (d : ℕ) (bytes : List ℕ) (r : PeerRecord) (ws : List Written)
     → (nat_lt d channels && can_send r d) ≡ b → Giver c now m acks r ws → Giver c now m acks (sent_if b d bytes r) ws
@@ -122,14 +110,10 @@ find_none : (test : Unacknowledged → Bool) (us : List Unacknowledged) → Each
 find_none test [] h = refl
 find_none test (u ∷ us) h = cond-false (test u) (Some u) (find test us) h.0 ∙ find_none test us h.1
 
-none_lost : (now m : ℕ) (us : List Unacknowledged) → now ≡ m → Each (IsTimed m) us → find (is_lost now) us ≡ None
+none_lost : (now m : ℕ) (us : List Unacknowledged) → now ≡ m → Each (IsTimed m) us → find (had_last_wait now) us ≡ None
 none_lost now m us same h =
-    find_none (is_lost now) us (each_weaker (IsTimed m) (λ (u : Unacknowledged). is_lost now u ≡ false)
+    find_none (had_last_wait now) us (each_weaker (IsTimed m) (λ (u : Unacknowledged). had_last_wait now u ≡ false)
     (λ u timed. and_left (has_waited now u) (nat_le most_writes u.writes) (not_waited now m u same timed)) us h)
-
-orders-due_again : (now : ℕ) (us : List Unacknowledged) → map order_of (map (due_again now) us) ≡ map order_of us
-orders-due_again now [] = refl
-orders-due_again now (u ∷ us) = ap (λ (x : List Order). u.order ∷ x) (orders-due_again now us)
 
 same_due : (b w : Bool) (xs : List Numbered) → w ≡ false → cond (b || w) xs [] ≡ cond b xs []
 same_due true w xs e = refl
@@ -169,19 +153,10 @@ giver_at c now m acks r ws k = alone_at (max r.now now) (max_twice r.now now m k
 pub giver_timed : (c now m acks : ℕ) (r : PeerRecord) (ws : List Written) → Giver c now m acks r ws → Giver c now m acks (timed now r) ws
 unfolding timed
 giver_timed c now m acks r ws k =
-    giver_timed_if c now m acks (is_shut r.state) (find (is_lost (max r.now now)) r.unacknowledged) (at_moment now r) ws
+    giver_timed_if c now m acks (is_shut r.state) (find (had_last_wait (max r.now now)) r.unacknowledged) (at_moment now r) ws
     (none_lost (max r.now now) m r.unacknowledged k.clock k.timed) k.clock (giver_at c now m acks r ws k)
 
 -- ---- the next datagram
-
-orders-first_written : (now n : ℕ) (us : List Unacknowledged) → map order_of (first_written now n us) ≡ map order_of us
-orders-first_written now n [] = refl
-orders-first_written now zero (u ∷ us) = refl
-orders-first_written now (suc n) (u ∷ us) = here u.due (orders-first_written now n us) (orders-first_written now (suc n) us) where
-  here : (b : Bool) → map order_of (first_written now n us) ≡ map order_of us → map order_of (first_written now (suc n) us) ≡ map order_of us
-      → map order_of (cond b (written_once now u ∷ first_written now n us) (u ∷ first_written now (suc n) us)) ≡ u.order ∷ map order_of us
-  here true one other = ap (λ (x : List Order). u.order ∷ x) one
-  here false one other = ap (λ (x : List Order). u.order ∷ x) other
 
 timed_first_written : (now m n : ℕ) (us : List Unacknowledged) → now ≡ m → Each (IsTimed m) us → Each (IsTimed m) (first_written now n us)
 timed_first_written now m n [] same h = tt

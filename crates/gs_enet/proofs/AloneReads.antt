@@ -15,17 +15,18 @@ use Rattle.gs_enet.specs.declared.answer.Answer.{Answer}
 use Rattle.gs_enet.specs.Record.{PeerRecord, Unacknowledged, Content, Connect, VerifyConnect, Disconnect, Message, Order, channels}
 use Rattle.gs_enet.specs.Record.{given_on, is_shut, at_moment}
 use Rattle.gs_enet.specs.Receive.{takes_messages, expected, message_if, is_next, is_behind, taken_if, is_connect, verified, verify_if, disconnect_if, answer_if}
-use Rattle.gs_enet.specs.Receive.{connected, acknowledged, is_named, acknowledged_if, answer_to, received, all_received}
+use Rattle.gs_enet.specs.Receive.{connected, acknowledged, is_named, acknowledged_if, owed_answer, command_received, all_received}
 use Rattle.gs_enet.specs.Steps.{can_send, closed, told_next}
-use Rattle.gs_enet.specs.World.{Written, Side, Opening, Client, Host, opened_by}
-use Rattle.gs_enet.specs.Apart.{Call, Sends, Takes, Tells, Times, Writes, Closes, called, all_called, taken_by}
+use Rattle.gs_enet.specs.World.{Written, Side, WorldOpening, Client, Host, opened_by}
+use Rattle.gs_enet.specs.Apart.{SideCall, Sends, Takes, Tells, Times, Writes, Closes, called, all_called, taken_by}
 use Rattle.gs_enet.proofs.Lists.{Each, each_unmap, each_append, each_find}
 use Rattle.gs_enet.proofs.Kept.{IsOver}
 use Rattle.gs_enet.proofs.Rising.{numbered, Rising, none_of_none, one_dropped, IsRecent, few_recent}
-use Rattle.gs_enet.proofs.HeldMessages.{order_of, message_of, held_on, gather, gather_kept, gather_other, gather_named}
+use Rattle.gs_enet.proofs.HeldMessages.{message_of, held_on, gather, gather_kept, gather_other, gather_named}
 use Rattle.gs_enet.proofs.WrittenMessages.{one_if}
 use Rattle.gs_enet.proofs.Alone.{Gone, IsLeave, IsNearOwn, alone_more, alone_drops}
 use Rattle.gs_enet.proofs.AloneCalls.{Giver, giver_sent, giver_leaves, giver_closed, giver_told, giver_hears, giver_at, giver_timed, giver_wrote}
+use Rattle.gs_enet.proofs.Giving.{order_of}
 
 -- ---- what is read: messages
 
@@ -175,24 +176,24 @@ acks_taken c [] = 0
 acks_taken c (d ∷ ds) = acks_in c d.commands + acks_taken c ds
 
 giver_received : (c now m acks sent : ℕ) (x : Command) (r : PeerRecord) (ws : List Written)
-    → Giver c now m acks r ws → Giver c now m (acks + acks_of c x) (received sent x r) ws
-unfolding received
+    → Giver c now m acks r ws → Giver c now m (acks + acks_of c x) (command_received sent x r) ws
+unfolding command_received
 giver_received c now m acks sent (command.Acknowledge channel number asks named named_sent) r ws k =
     giver_acknowledge c now m acks (find (is_named channel named) r.unacknowledged) channel named r ws refl k
 giver_received c now m acks sent (command.VerifyConnect channel number asks peer incoming outgoing mtu window most ib ob interval up down connect_id) r ws k =
-    giver_verify_if c now m (acks + 0) (is_some r.extra && (connect_id == r.connect_id)) peer (answer_to sent channel number) r ws
+    giver_verify_if c now m (acks + 0) (is_some r.extra && (connect_id == r.connect_id)) peer (owed_answer sent channel number) r ws
     (alone_more (acks + 0) k (omega arith))
 giver_received c now m acks sent (command.Disconnect channel number asks extra) r ws k =
-    giver_disconnect c now m (acks + 0) r.disconnected (record (answer_to sent channel number) { to_disconnect = true }) r ws
+    giver_disconnect c now m (acks + 0) r.disconnected (record (owed_answer sent channel number) { to_disconnect = true }) r ws
     (alone_more (acks + 0) k (omega arith))
 giver_received c now m acks sent (command.Ping channel number asks) r ws k =
-    giver_answer_if c now m (acks + 0) (asks && not (is_shut r.state)) (answer_to sent channel number) r ws (alone_more (acks + 0) k (omega arith))
+    giver_answer_if c now m (acks + 0) (asks && not (is_shut r.state)) (owed_answer sent channel number) r ws (alone_more (acks + 0) k (omega arith))
 giver_received c now m acks sent (command.Bandwidth channel number asks incoming outgoing) r ws k =
-    giver_answer_if c now m (acks + 0) (asks && not (is_shut r.state)) (answer_to sent channel number) r ws (alone_more (acks + 0) k (omega arith))
+    giver_answer_if c now m (acks + 0) (asks && not (is_shut r.state)) (owed_answer sent channel number) r ws (alone_more (acks + 0) k (omega arith))
 giver_received c now m acks sent (command.Throttle channel number asks interval up down) r ws k =
-    giver_answer_if c now m (acks + 0) (asks && not (is_shut r.state)) (answer_to sent channel number) r ws (alone_more (acks + 0) k (omega arith))
+    giver_answer_if c now m (acks + 0) (asks && not (is_shut r.state)) (owed_answer sent channel number) r ws (alone_more (acks + 0) k (omega arith))
 giver_received c now m acks sent (command.Reliable channel number asks bytes) r ws k =
-    giver_taken_if c now m (acks + 0) (nat_lt channel channels && takes_messages r.state) channel number bytes (answer_to sent channel number) r ws
+    giver_taken_if c now m (acks + 0) (nat_lt channel channels && takes_messages r.state) channel number bytes (owed_answer sent channel number) r ws
     (alone_more (acks + 0) k (omega arith))
 giver_received c now m acks sent (command.Connect x) r ws k = alone_more (acks + 0) k (omega arith)
 giver_received c now m acks sent (command.Unreliable channel number asks unreliable bytes) r ws k = alone_more (acks + 0) k (omega arith)
@@ -206,7 +207,7 @@ giver_all_received : (c now m acks sent : ℕ) (xs : List Command) (r : PeerReco
 giver_all_received c now m acks sent [] r ws k = alone_more (acks + 0) k (omega arith)
 giver_all_received c now m acks sent (x ∷ xs) r ws k =
     alone_more (acks + (acks_of c x + acks_in c xs))
-    (giver_all_received c now m (acks + acks_of c x) sent xs (received sent x r) ws (giver_received c now m acks sent x r ws k)) (omega arith)
+    (giver_all_received c now m (acks + acks_of c x) sent xs (command_received sent x r) ws (giver_received c now m acks sent x r ws k)) (omega arith)
 
 -- all but the last 256 were acknowledged
 pub giver_few : (c now m acks : ℕ) (r : PeerRecord) (ws : List Written) → Giver c now m acks r ws → length (given_on c r.given) ≤ 256 + acks
@@ -215,7 +216,7 @@ giver_few c now m acks r ws k =
 
 -- ---- all calls
 
-pub giver_called : (c now m acks : ℕ) (calls : List Call) (s : Side) → Giver c now m acks s.peer s.wrote
+pub giver_called : (c now m acks : ℕ) (calls : List SideCall) (s : Side) → Giver c now m acks s.peer s.wrote
     → Giver c now m (acks + acks_taken c (taken_by calls)) (all_called now calls s).peer (all_called now calls s).wrote
 unfolding closed told_next
 giver_called c now m acks [] s k = alone_more (acks + 0) k (omega arith)
@@ -231,7 +232,7 @@ giver_called c now m acks (Times ∷ cs) s k = giver_called c now m acks cs (cal
 giver_called c now m acks (Writes ∷ cs) s k = giver_called c now m acks cs (called now Writes s) (giver_wrote c now m acks s.peer s.wrote k)
 giver_called c now m acks (Closes ∷ cs) s k = giver_called c now m acks cs (called now Closes s) (giver_closed c now m acks s.peer.state s.peer s.wrote refl k)
 
-pub giver_opened : (c now : ℕ) (o : Opening) → Giver c now (max (opened_by o).now now) 0 (opened_by o) []
+pub giver_opened : (c now : ℕ) (o : WorldOpening) → Giver c now (max (opened_by o).now now) 0 (opened_by o) []
 giver_opened c now (Client own connect_id extra at) =
     record {
       outside = λ above. refl;

@@ -23,12 +23,12 @@ use Rattle.gs_enet.specs.Receive.{leave_if, leaving, is_named, acknowledged, ack
 use Rattle.gs_enet.specs.Receive.{takes_messages, expected, is_next, is_behind, message_if, taken_if, message_came, is_connect_content, is_connect, verify_if}
 use Rattle.gs_enet.specs.Receive.{verified, verify_came}
 use Rattle.gs_enet.specs.Steps.{next_number, is_full, is_open, with_message, close_if, closed, placed, first_event, next_event, telling, timed_if, timed_at}
-use Rattle.gs_enet.specs.Steps.{name_of, is_lost, due_again}
+use Rattle.gs_enet.specs.Steps.{name_of, had_last_wait, due_again}
 use Rattle.gs_enet.specs.Window.{unacknowledged, in_window, front_is_held}
 use Rattle.gs_enet.specs.Channels.{next_of, channel_held, all_held, is_channel_full, AreEmpty, GivesOne, SameHeld, MarksDue, DropsNamed}
 use Rattle.gs_enet.specs.Controls.{content_of, unacknowledged_control, control_held, is_closing, is_accepting}
 use Rattle.gs_enet.specs.Events.{IsQuiet}
-use Rattle.gs_enet.specs.Standing.{HasCounts, StandsFor, held_by}
+use Rattle.gs_enet.specs.Standing.{HasCounts, IsPeerOf, held_by}
 use Rattle.gs_enet.specs.declared.peer.Peer.{Peer}
 use Rattle.gs_enet.proofs.Lists.{Each, each_weaker, each_append, each_find}
 use Rattle.gs_enet.proofs.Kept.{IsNoMessage, messages_on-other, messages_on-message, messages_on-apart, giving, given_on-own, given_on-apart}
@@ -53,7 +53,7 @@ verify-is s peer connect_id a r some same is =
     verify_own (connect_id == r.connect_id) s peer a r (and_from (is_some r.extra) (connect_id == r.connect_id) some (eq-eqb connect_id r.connect_id same)) is
 
 -- the next message of a channel is heard
-pub tells_one : (p : Peer) (r : PeerRecord) (c place : ℕ) (bytes : List ℕ) (old new : Channel) → StandsFor p r → c < 48 → place ≡ c
+pub tells_one : (p : Peer) (r : PeerRecord) (c place : ℕ) (bytes : List ℕ) (old new : Channel) → IsPeerOf p r → c < 48 → place ≡ c
     → old ≡ get_or p.channels.items place old
     → next_of new ≡ next_of old → new.heard ≡ old.heard + 1 → ((k : ℕ) → channel_held k new ≡ channel_held k old)
     → HasCounts (happened (event.Message c (expected r c) bytes) r) (set p.channels.items place new)
@@ -103,7 +103,7 @@ held_without_connect p k e =
     ∙ ap (λ (us : List Unacknowledged). us ++ filter (λ (u : Unacknowledged). not (is_connect u.order)) (all_held 0 p.channels.items)) (sym e)
     ∙ ap (λ (us : List Unacknowledged). control_held k ++ us) (no_connects (all_held 0 p.channels.items) (all_held-from 0 p.channels.items))
 
-pub reads_expected : (p : Peer) (r : PeerRecord) (c place : ℕ) (ch : Channel) → StandsFor p r → c < 48 → place ≡ c → ch ≡ get_or p.channels.items place ch
+pub reads_expected : (p : Peer) (r : PeerRecord) (c place : ℕ) (ch : Channel) → IsPeerOf p r → c < 48 → place ≡ c → ch ≡ get_or p.channels.items place ch
     → ch.heard + 1 ≡ expected r c
 reads_expected p r c place ch s below at read =
     let had = s.counts place ch (omega (arith, sizes p, at, below)) in

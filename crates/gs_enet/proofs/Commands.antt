@@ -6,67 +6,69 @@ use Rattle.gs_enet.specs.declared.peer.Peer.{Peer}
 use Rattle.std.proofs.Common.{◌≡◌, ◌≤◌, ◌+◌, ◌++◌, [], ◌∷◌, length, arith, ◌⊎◌, inl, inr, ℕ, Bool, true, List, Option, Some, None, refl, sym, ap, subst, ◌∙◌}
 use Rattle.gs_enet_wire.specs.declared.command.Command.{Command}
 use Rattle.gs_enet_wire.specs.declared.command.Command.TheVariants as command
-use Rattle.gs_enet_wire.specs.Grammar.{head, after_first, fields_bytes, header, AreCommands, Spells}
+use Rattle.gs_enet_wire.specs.Grammar.{command_head, after_first, fields_bytes, header, AreCommands, SpellsDatagram}
 use Rattle.gs_enet.specs.declared.answer.Answer.{Answer}
 use Rattle.gs_enet.specs.Record.{PeerRecord}
-use Rattle.gs_enet.specs.Receive.{received, answer_to, other_came, disconnect_came, verify_came, message_came, all_received, taken}
-use Rattle.gs_enet.specs.Standing.{StandsFor}
-use Rattle.gs_enet.specs.Outcomes.{Takes}
+use Rattle.gs_enet.specs.Receive.{command_received, owed_answer, other_came, disconnect_came, verify_came, message_came, all_received, datagram_taken}
+use Rattle.gs_enet.specs.Standing.{IsPeerOf}
+use Rattle.gs_enet.specs.Outcomes.{PeerTakes}
 use Rattle.gs_enet.specs.Rooms.{message_bytes, HasRooms, Grows}
 
-pub received-verify : (a : Answer) (cmd : Command) (r : PeerRecord) (channel number : ℕ) (asks : Bool)
+pub command_received-verify : (a : Answer) (cmd : Command) (r : PeerRecord) (channel number : ℕ) (asks : Bool)
     (peer incoming outgoing mtu window most ib ob ti up down connect_id : ℕ)
     → cmd ≡ command.VerifyConnect channel number asks peer incoming outgoing mtu window most ib ob ti up down connect_id
-    → a ≡ answer_to a.sent (head cmd).channel (head cmd).number
-    → received a.sent cmd r ≡ verify_came peer connect_id a r
-unfolding received
-received-verify a cmd r channel number asks peer incoming outgoing mtu window most ib ob ti up down connect_id is fit =
-    ap (λ (x : Command). received a.sent x r) is ∙ ap (λ (x : Answer). verify_came peer connect_id x r)
-    (sym (fit ∙ ap (λ (x : Command). answer_to a.sent (head x).channel (head x).number) is))
+    → a ≡ owed_answer a.sent (command_head cmd).channel (command_head cmd).number
+    → command_received a.sent cmd r ≡ verify_came peer connect_id a r
+unfolding command_received
+command_received-verify a cmd r channel number asks peer incoming outgoing mtu window most ib ob ti up down connect_id is fit =
+    ap (λ (x : Command). command_received a.sent x r) is ∙ ap (λ (x : Answer). verify_came peer connect_id x r)
+    (sym (fit ∙ ap (λ (x : Command). owed_answer a.sent (command_head x).channel (command_head x).number) is))
 
-pub received-disconnect : (a : Answer) (cmd : Command) (r : PeerRecord) (channel number : ℕ) (asks : Bool) (extra : ℕ)
-    → cmd ≡ command.Disconnect channel number asks extra → a ≡ answer_to a.sent (head cmd).channel (head cmd).number
-    → received a.sent cmd r ≡ disconnect_came (record a { to_disconnect = true }) r
-unfolding received
-received-disconnect a cmd r channel number asks extra is fit =
-    ap (λ (x : Command). received a.sent x r) is
+pub command_received-disconnect : (a : Answer) (cmd : Command) (r : PeerRecord) (channel number : ℕ) (asks : Bool) (extra : ℕ)
+    → cmd ≡ command.Disconnect channel number asks extra → a ≡ owed_answer a.sent (command_head cmd).channel (command_head cmd).number
+    → command_received a.sent cmd r ≡ disconnect_came (record a { to_disconnect = true }) r
+unfolding command_received
+command_received-disconnect a cmd r channel number asks extra is fit =
+    ap (λ (x : Command). command_received a.sent x r) is
     ∙ ap (λ (x : Answer). disconnect_came (record x { to_disconnect = true }) r)
-    (sym (fit ∙ ap (λ (x : Command). answer_to a.sent (head x).channel (head x).number) is))
+    (sym (fit ∙ ap (λ (x : Command). owed_answer a.sent (command_head x).channel (command_head x).number) is))
 
-pub received-asking : (a : Answer) (cmd : Command) (r : PeerRecord) (asks : Bool)
+pub command_received-asking : (a : Answer) (cmd : Command) (r : PeerRecord) (asks : Bool)
     → ((x : ℕ) × (y : ℕ) × (cmd ≡ command.Ping x y asks))
     ⊎ (((x : ℕ) × (y : ℕ) × (z : ℕ) × (w : ℕ) × (cmd ≡ command.Bandwidth x y asks z w))
     ⊎ ((x : ℕ) × (y : ℕ) × (z : ℕ) × (w : ℕ) × (v : ℕ) × (cmd ≡ command.Throttle x y asks z w v)))
-    → a ≡ answer_to a.sent (head cmd).channel (head cmd).number → received a.sent cmd r ≡ other_came asks a r
-unfolding received
-received-asking a cmd r asks (inl (x, y, is)) fit =
-    ap (λ (k : Command). received a.sent k r) is ∙ ap (λ (k : Answer). other_came asks k r)
-    (sym (fit ∙ ap (λ (k : Command). answer_to a.sent (head k).channel (head k).number) is))
-received-asking a cmd r asks (inr (inl (x, y, z, w, is))) fit =
-    ap (λ (k : Command). received a.sent k r) is ∙ ap (λ (k : Answer). other_came asks k r)
-    (sym (fit ∙ ap (λ (k : Command). answer_to a.sent (head k).channel (head k).number) is))
-received-asking a cmd r asks (inr (inr (x, y, z, w, v, is))) fit =
-    ap (λ (k : Command). received a.sent k r) is ∙ ap (λ (k : Answer). other_came asks k r)
-    (sym (fit ∙ ap (λ (k : Command). answer_to a.sent (head k).channel (head k).number) is))
+    → a ≡ owed_answer a.sent (command_head cmd).channel (command_head cmd).number → command_received a.sent cmd r ≡ other_came asks a r
+unfolding command_received
+command_received-asking a cmd r asks (inl (x, y, is)) fit =
+    ap (λ (k : Command). command_received a.sent k r) is ∙ ap (λ (k : Answer). other_came asks k r)
+    (sym (fit ∙ ap (λ (k : Command). owed_answer a.sent (command_head k).channel (command_head k).number) is))
+command_received-asking a cmd r asks (inr (inl (x, y, z, w, is))) fit =
+    ap (λ (k : Command). command_received a.sent k r) is ∙ ap (λ (k : Answer). other_came asks k r)
+    (sym (fit ∙ ap (λ (k : Command). owed_answer a.sent (command_head k).channel (command_head k).number) is))
+command_received-asking a cmd r asks (inr (inr (x, y, z, w, v, is))) fit =
+    ap (λ (k : Command). command_received a.sent k r) is ∙ ap (λ (k : Answer). other_came asks k r)
+    (sym (fit ∙ ap (λ (k : Command). owed_answer a.sent (command_head k).channel (command_head k).number) is))
 
-pub received-message : (sent : ℕ) (cmd : Command) (r : PeerRecord) (bytes : List ℕ) → message_bytes cmd ≡ Some bytes
-    → received sent cmd r ≡ message_came (head cmd).channel (head cmd).number bytes (answer_to sent (head cmd).channel (head cmd).number) r
-unfolding received
-received-message sent (command.Reliable channel number asks own) r bytes e =
-    ap (λ (b : List ℕ). message_came channel number b (answer_to sent channel number) r) (let same : own ≡ bytes = cc in same)
-received-message sent (command.Acknowledge channel number asks named named_sent) r bytes e = absurd cc
-received-message sent (command.Connect k) r bytes e = absurd cc
-received-message sent (command.VerifyConnect channel number asks peer incoming outgoing mtu window most ib ob ti up down connect_id) r bytes e = absurd cc
-received-message sent (command.Disconnect channel number asks extra) r bytes e = absurd cc
-received-message sent (command.Ping channel number asks) r bytes e = absurd cc
-received-message sent (command.Unreliable channel number asks unreliable own) r bytes e = absurd cc
-received-message sent (command.Fragment channel number asks start count fragment total offset own) r bytes e = absurd cc
-received-message sent (command.Unsequenced channel number asks group own) r bytes e = absurd cc
-received-message sent (command.Bandwidth channel number asks incoming outgoing) r bytes e = absurd cc
-received-message sent (command.Throttle channel number asks interval up down) r bytes e = absurd cc
-received-message sent (command.UnreliableFragment channel number asks start count fragment total offset own) r bytes e = absurd cc
+pub command_received-message : (sent : ℕ) (cmd : Command) (r : PeerRecord) (bytes : List ℕ) → message_bytes cmd ≡ Some bytes
+    → command_received sent cmd r
+    ≡ message_came (command_head cmd).channel (command_head cmd).number bytes (owed_answer sent (command_head cmd).channel (command_head cmd).number) r
+unfolding command_received
+command_received-message sent (command.Reliable channel number asks own) r bytes e =
+    ap (λ (b : List ℕ). message_came channel number b (owed_answer sent channel number) r) (let same : own ≡ bytes = cc in same)
+command_received-message sent (command.Acknowledge channel number asks named named_sent) r bytes e = absurd cc
+command_received-message sent (command.Connect k) r bytes e = absurd cc
+command_received-message sent (command.VerifyConnect channel number asks peer incoming outgoing mtu window most ib ob ti up down connect_id) r bytes e =
+    absurd cc
+command_received-message sent (command.Disconnect channel number asks extra) r bytes e = absurd cc
+command_received-message sent (command.Ping channel number asks) r bytes e = absurd cc
+command_received-message sent (command.Unreliable channel number asks unreliable own) r bytes e = absurd cc
+command_received-message sent (command.Fragment channel number asks start count fragment total offset own) r bytes e = absurd cc
+command_received-message sent (command.Unsequenced channel number asks group own) r bytes e = absurd cc
+command_received-message sent (command.Bandwidth channel number asks incoming outgoing) r bytes e = absurd cc
+command_received-message sent (command.Throttle channel number asks interval up down) r bytes e = absurd cc
+command_received-message sent (command.UnreliableFragment channel number asks start count fragment total offset own) r bytes e = absurd cc
 
-pub received-ignored : (sent : ℕ) (cmd : Command) (r : PeerRecord) → message_bytes cmd ≡ None
+pub command_received-ignored : (sent : ℕ) (cmd : Command) (r : PeerRecord) → message_bytes cmd ≡ None
     → ((channel number : ℕ) (asks : Bool) (named named_sent : ℕ) → cmd ≡ command.Acknowledge channel number asks named named_sent → ⊥)
     → ((channel number : ℕ) (asks : Bool) (peer incoming outgoing mtu window most ib ob ti up down connect_id : ℕ)
     → cmd ≡ command.VerifyConnect channel number asks peer incoming outgoing mtu window most ib ob ti up down connect_id → ⊥)
@@ -74,21 +76,25 @@ pub received-ignored : (sent : ℕ) (cmd : Command) (r : PeerRecord) → message
     → ((channel number : ℕ) (asks : Bool) → cmd ≡ command.Ping channel number asks → ⊥)
     → ((channel number : ℕ) (asks : Bool) (incoming outgoing : ℕ) → cmd ≡ command.Bandwidth channel number asks incoming outgoing → ⊥)
     → ((channel number : ℕ) (asks : Bool) (interval up down : ℕ) → cmd ≡ command.Throttle channel number asks interval up down → ⊥)
-    → received sent cmd r ≡ r
-unfolding received
-received-ignored sent (command.Reliable channel number asks own) r e na nv nd np nb nt = absurd cc
-received-ignored sent (command.Acknowledge channel number asks named named_sent) r e na nv nd np nb nt = absurd (na channel number asks named named_sent refl)
-received-ignored sent (command.Connect k) r e na nv nd np nb nt = refl
-received-ignored sent (command.VerifyConnect channel number asks peer incoming outgoing mtu window most ib ob ti up down connect_id) r e na nv nd np nb nt =
+    → command_received sent cmd r ≡ r
+unfolding command_received
+command_received-ignored sent (command.Reliable channel number asks own) r e na nv nd np nb nt = absurd cc
+command_received-ignored sent (command.Acknowledge channel number asks named named_sent) r e na nv nd np nb nt =
+    absurd (na channel number asks named named_sent refl)
+command_received-ignored sent (command.Connect k) r e na nv nd np nb nt = refl
+command_received-ignored sent
+    (command.VerifyConnect channel number asks peer incoming outgoing mtu window most ib ob ti up down connect_id) r e na nv nd np nb nt =
     absurd (nv channel number asks peer incoming outgoing mtu window most ib ob ti up down connect_id refl)
-received-ignored sent (command.Disconnect channel number asks extra) r e na nv nd np nb nt = absurd (nd channel number asks extra refl)
-received-ignored sent (command.Ping channel number asks) r e na nv nd np nb nt = absurd (np channel number asks refl)
-received-ignored sent (command.Unreliable channel number asks unreliable own) r e na nv nd np nb nt = refl
-received-ignored sent (command.Fragment channel number asks start count fragment total offset own) r e na nv nd np nb nt = refl
-received-ignored sent (command.Unsequenced channel number asks group own) r e na nv nd np nb nt = refl
-received-ignored sent (command.Bandwidth channel number asks incoming outgoing) r e na nv nd np nb nt = absurd (nb channel number asks incoming outgoing refl)
-received-ignored sent (command.Throttle channel number asks interval up down) r e na nv nd np nb nt = absurd (nt channel number asks interval up down refl)
-received-ignored sent (command.UnreliableFragment channel number asks start count fragment total offset own) r e na nv nd np nb nt = refl
+command_received-ignored sent (command.Disconnect channel number asks extra) r e na nv nd np nb nt = absurd (nd channel number asks extra refl)
+command_received-ignored sent (command.Ping channel number asks) r e na nv nd np nb nt = absurd (np channel number asks refl)
+command_received-ignored sent (command.Unreliable channel number asks unreliable own) r e na nv nd np nb nt = refl
+command_received-ignored sent (command.Fragment channel number asks start count fragment total offset own) r e na nv nd np nb nt = refl
+command_received-ignored sent (command.Unsequenced channel number asks group own) r e na nv nd np nb nt = refl
+command_received-ignored sent (command.Bandwidth channel number asks incoming outgoing) r e na nv nd np nb nt =
+    absurd (nb channel number asks incoming outgoing refl)
+command_received-ignored sent (command.Throttle channel number asks interval up down) r e na nv nd np nb nt =
+    absurd (nt channel number asks interval up down refl)
+command_received-ignored sent (command.UnreliableFragment channel number asks start count fragment total offset own) r e na nv nd np nb nt = refl
 
 -- a datagram has fewer commands than bytes
 commands_few : (timed : Bool) (bytes : List ℕ) (cs : List Command) → AreCommands timed bytes cs → length cs ≤ length bytes
@@ -98,7 +104,7 @@ commands_few timed bytes (c ∷ cs) (front, rest, parts, is, more) =
     let size : length bytes ≡ length front + length rest = ap length parts ∙ length-append front rest in
     omega (arith, later, size, ap length is.spelled)
 
-pub few_commands : (bytes : List ℕ) (d : Datagram) → Spells bytes d → length d.commands ≤ 4096
+pub few_commands : (bytes : List ℕ) (d : Datagram) → SpellsDatagram bytes d → length d.commands ≤ 4096
 few_commands bytes d s =
     let few = commands_few (is_some d.sent) s.body d.commands s.commands in
     let size : length bytes ≡ length (fields_bytes (header d)) + length s.body = ap length s.spelled ∙ length-append (fields_bytes (header d)) s.body in
@@ -126,10 +132,10 @@ all_done sent (c ∷ cs) r e = absurd (omega (arith, e))
 
 -- ---- what is taken between two moments that change no record
 
-pub takes_through : (bytes : List ℕ) (now : ℕ) (old lent taken_by new : Peer) → ((r : PeerRecord) → StandsFor old r → StandsFor lent r)
-    → ((r : PeerRecord) → StandsFor taken_by r → StandsFor new r) → Takes bytes now lent taken_by → Takes bytes now old new
+pub takes_through : (bytes : List ℕ) (now : ℕ) (old lent taken_by new : Peer) → ((r : PeerRecord) → IsPeerOf old r → IsPeerOf lent r)
+    → ((r : PeerRecord) → IsPeerOf taken_by r → IsPeerOf new r) → PeerTakes bytes now lent taken_by → PeerTakes bytes now old new
 takes_through bytes now old lent taken_by new first last t = record {
   datagram = t.datagram;
   spelled = t.spelled;
-  stands = λ r s. last (taken t.datagram now r) (t.stands r (first r s));
+  stands = λ r s. last (datagram_taken t.datagram now r) (t.stands r (first r s));
 }

@@ -15,7 +15,7 @@ use Rattle.gs_enet.specs.Window.{in_window, passes, held_due}
 use Rattle.gs_enet.specs.Channels.{next_of, channel_held, all_held, SameHeld, SameCounts, AreSame, HasDue}
 use Rattle.gs_enet.specs.Busy.{IsSettled, AreIdle}
 use Rattle.gs_enet.specs.Standing.{HasCounts}
-use Rattle.gs_enet.proofs.Windows.{due_none}
+use Rattle.gs_enet.proofs.Windows.{due_none, first_written-none}
 
 -- ---- settled channels
 
@@ -115,10 +115,6 @@ counts_same r xs ys size h counts c d lt =
     (same.next ∙ had.0, same.heard ∙ had.1)
 
 -- ---- what was noted as written
-
-pub first_written-none : (now : ℕ) (us : List Unacknowledged) → first_written now 0 us ≡ us
-first_written-none now [] = refl
-first_written-none now (u ∷ us) = refl
 
 -- those that are written first aren't among those that aren't to be written
 pub first_written-past : (now : ℕ) (xs ys : List Unacknowledged) → filter is_due xs ≡ [] → first_written now 1 (xs ++ ys) ≡ xs ++ first_written now 1 ys

@@ -18,11 +18,12 @@ use Rattle.gs_enet.specs.Record.{PeerRecord, Message, Order, Unacknowledged, is_
 use Rattle.gs_enet.specs.Write.{Item, Answers, Orders, item_command, order_command, is_due, due_if, going_out, written_once, first_written, having_written}
 use Rattle.gs_enet.specs.Channels.{channel_held, all_held, SameHeld, WritesFirst}
 use Rattle.gs_enet.specs.Controls.{content_of, unacknowledged_control, control_held}
-use Rattle.gs_enet.specs.Standing.{StandsFor, HasCounts, held_by}
+use Rattle.gs_enet.specs.Standing.{IsPeerOf, HasCounts, held_by}
 use Rattle.gs_enet.specs.Items.{IsFirstDue, WritesMessage, WritesOne, HasControlDue, HasMessageDue, HasNoControlDue, HasNoneDue}
 use Rattle.gs_enet.proofs.Flat.{before, behind, split_at, split_set}
-use Rattle.gs_enet.proofs.Due.{first_written-none, first_written-past, first_written-within}
+use Rattle.gs_enet.proofs.Due.{first_written-past, first_written-within}
 use Rattle.gs_enet.proofs.Standings.{counts_set}
+use Rattle.gs_enet.proofs.Windows.{first_written-none}
 
 abbrev pub order_items : List Unacknowledged → List Item
 order_items us = map (λ (u : Unacknowledged). Orders u.order) us
@@ -57,12 +58,12 @@ out_of as' over us vs none up held =
     ∙ ap (λ (b : Bool). order_items (due_if b us)) up
     ∙ ap (λ (l : List Unacknowledged). order_items (filter is_due l)) held
 
-pub commands_out : (p : Peer) (r : PeerRecord) → StandsFor p r → p.pending.items ≡ [] → is_shut p.state ≡ false
+pub commands_out : (p : Peer) (r : PeerRecord) → IsPeerOf p r → p.pending.items ≡ [] → is_shut p.state ≡ false
     → going_out r ≡ order_items (filter is_due (held_by p))
 commands_out p r s none up =
     out_of r.pending (is_shut r.state) r.unacknowledged (held_by p) (s.pending ∙ none) (ap is_shut s.state ∙ up) s.unacknowledged
 
-pub one_written : (p : Peer) (r : PeerRecord) → StandsFor p r → p.pending.items ≡ []
+pub one_written : (p : Peer) (r : PeerRecord) → IsPeerOf p r → p.pending.items ≡ []
     → first_written r.now (1 - length r.pending) r.unacknowledged ≡ first_written p.moment 1 (held_by p)
 one_written p r s none =
     let one : 1 - length r.pending ≡ 1 = omega (arith, ap length (s.pending ∙ none)) in
@@ -70,17 +71,17 @@ one_written p r s none =
     ∙ ap (λ (k : ℕ). first_written k 1 r.unacknowledged) s.now
     ∙ ap (first_written p.moment 1) s.unacknowledged
 
-pub still_none : (p : Peer) (r : PeerRecord) → StandsFor p r → p.pending.items ≡ [] → drop 1 r.pending ≡ p.pending.items
+pub still_none : (p : Peer) (r : PeerRecord) → IsPeerOf p r → p.pending.items ≡ [] → drop 1 r.pending ≡ p.pending.items
 still_none p r s none = ap (drop 1) (s.pending ∙ none) ∙ sym none
 
-pub control_first : (p : Peer) (r : PeerRecord) (k : Control) → StandsFor p r → HasControlDue k p
+pub control_first : (p : Peer) (r : PeerRecord) (k : Control) → IsPeerOf p r → HasControlDue k p
     → going_out r ≡ Orders (unacknowledged_control k).order ∷ order_items (filter is_due (all_held 0 p.channels.items))
 control_first p r k s h =
     commands_out p r s h.none h.up
     ∙ ap (λ (o : Option Control). order_items (filter is_due (control_held o ++ all_held 0 p.channels.items))) h.held
     ∙ ap order_items (cond-true k.due (unacknowledged_control k ∷ filter is_due (all_held 0 p.channels.items)) _ h.due)
 
-pub control_leaves : (p : Peer) (r : PeerRecord) (k new : Control) → StandsFor p r → HasControlDue k p
+pub control_leaves : (p : Peer) (r : PeerRecord) (k new : Control) → IsPeerOf p r → HasControlDue k p
     → unacknowledged_control new ≡ written_once p.moment (unacknowledged_control k)
     → first_written r.now (1 - length r.pending) r.unacknowledged ≡ control_held (Some new) ++ all_held 0 p.channels.items
 control_leaves p r k new s h wrote =
@@ -93,7 +94,7 @@ control_leaves p r k new s h wrote =
 
 -- ---- messages
 
-pub none_first : (p : Peer) (r : PeerRecord) → StandsFor p r → p.pending.items ≡ [] → is_shut p.state ≡ false → HasNoControlDue p → HasNoneDue p
+pub none_first : (p : Peer) (r : PeerRecord) → IsPeerOf p r → p.pending.items ≡ [] → is_shut p.state ≡ false → HasNoControlDue p → HasNoneDue p
     → going_out r ≡ []
 none_first p r s none up no_control no_message =
     commands_out p r s none up
@@ -115,7 +116,7 @@ due_of p c d lt no_control no_message =
 abbrev pub message_item : ℕ → ℕ → List ℕ → Item
 message_item c number bytes = Orders (record { content = Message bytes; channel = c; number = number })
 
-pub message_first : (p : Peer) (r : PeerRecord) (c number : ℕ) (bytes : List ℕ) (old : Channel) → StandsFor p r → p.pending.items ≡ [] → is_shut p.state ≡ false
+pub message_first : (p : Peer) (r : PeerRecord) (c number : ℕ) (bytes : List ℕ) (old : Channel) → IsPeerOf p r → p.pending.items ≡ [] → is_shut p.state ≡ false
     → HasNoControlDue p → HasMessageDue c p → c < length p.channels.items → old ≡ get_or p.channels.items c old
     → (f : IsFirstDue c number bytes old)
     → going_out r ≡ message_item c number bytes ∷ order_items (f.rest ++ filter is_due (behind c p.channels.items))
@@ -127,7 +128,7 @@ message_first p r c number bytes old s none up no_control due lt read f =
     ∙ ap (λ (us : List Unacknowledged). us ++ later) f.front)
     ∙ ap (λ (o : Order). Orders o ∷ order_items (f.rest ++ later)) f.order
 
-pub message_leaves : (p : Peer) (r : PeerRecord) (c number : ℕ) (bytes : List ℕ) (old new : Channel) → StandsFor p r → p.pending.items ≡ []
+pub message_leaves : (p : Peer) (r : PeerRecord) (c number : ℕ) (bytes : List ℕ) (old new : Channel) → IsPeerOf p r → p.pending.items ≡ []
     → HasNoControlDue p → HasMessageDue c p → c < length p.channels.items → old ≡ get_or p.channels.items c old
     → IsFirstDue c number bytes old → WritesFirst p.moment old new
     → first_written r.now (1 - length r.pending) r.unacknowledged ≡ control_held p.control ++ all_held 0 (set p.channels.items c new)
@@ -145,7 +146,7 @@ message_leaves p r c number bytes old new s none no_control due lt read f wrote 
     ∙ ap (λ (us : List Unacknowledged). us ++ behind c chs) (sym (wrote.held c)))
     ∙ sym (split_set c chs new lt))
 
-pub message_counts : (p : Peer) (r : PeerRecord) (c now : ℕ) (old new : Channel) → StandsFor p r → c < length p.channels.items
+pub message_counts : (p : Peer) (r : PeerRecord) (c now : ℕ) (old new : Channel) → IsPeerOf p r → c < length p.channels.items
     → old ≡ get_or p.channels.items c old → WritesFirst now old new → HasCounts (having_written 1 r) (set p.channels.items c new)
 message_counts p r c now old new s lt read wrote =
     let had = s.counts c old lt in
@@ -167,17 +168,13 @@ pub no_control : (o : Option Control) → (o ≡ None) ⊎ ((k : Control) × (o 
 no_control o (inl none) = ap (λ (x : Option Control). filter is_due (control_held x)) none
 no_control o (inr (k, some, idle)) = ap (λ (x : Option Control). filter is_due (control_held x)) some ∙ cond-false k.due (unacknowledged_control k ∷ []) [] idle
 
-pub is_nil : {X : Type 0} (xs : List X) → length xs ≡ 0 → xs ≡ []
-is_nil [] e = refl
-is_nil (x ∷ xs) e = absurd (omega (arith, e))
-
-pub message_one : (p q : Peer) (r : PeerRecord) (c place : ℕ) (result : Option ℕ) (old new : Channel) (out after : List ℕ) → StandsFor p r
+pub message_one : (p q : Peer) (r : PeerRecord) (c place : ℕ) (result : Option ℕ) (old new : Channel) (out after : List ℕ) → IsPeerOf p r
     → p.pending.items ≡ []
     → is_shut p.state ≡ false → HasNoControlDue p → HasMessageDue c p → c < length p.channels.items → old ≡ get_or p.channels.items c old
-    → WritesMessage c p.moment place result old new out after → (SameHeld old new → StandsFor q r)
+    → WritesMessage c p.moment place result old new out after → (SameHeld old new → IsPeerOf q r)
     → (HasCounts (having_written 1 r) (set p.channels.items c new)
     → first_written r.now (1 - length r.pending) r.unacknowledged ≡ control_held p.control ++ all_held 0 (set p.channels.items c new)
-    → StandsFor q (having_written 1 r))
+    → IsPeerOf q (having_written 1 r))
     → WritesOne r place result q out after
 message_one p q r c place None old new out after s none up no_ctl due lt read w kept wrote = (
   inr (record {

@@ -12,7 +12,7 @@ use Rattle.std.proofs.lemmas.List.Folds.{find-append}
 use Rattle.gs_enet.specs.declared.held.Held.{Held}
 use Rattle.gs_enet.specs.declared.channel.Channel.{Channel}
 use Rattle.gs_enet.specs.Record.{Unacknowledged, Content, Connect, VerifyConnect, Disconnect, Message, Order}
-use Rattle.gs_enet.specs.Steps.{placed, comes_before, rank, name_of, is_lost, due_again}
+use Rattle.gs_enet.specs.Steps.{placed, comes_before, rank, name_of, had_last_wait, due_again}
 use Rattle.gs_enet.specs.Window.{unacknowledged, in_window}
 use Rattle.gs_enet.specs.Channels.{next_of, channel_held, all_held, AreNew, IsNewChannel, LostIs, MarksDue, SameCounts}
 use Rattle.gs_enet.proofs.Windows.{none_is_lost, find_none_in}
@@ -178,7 +178,7 @@ named_by i number (Some u) P on e =
     let same : u.order.number ≡ number = cc in
     ap (λ (x : ℕ). Some (x, u.order.number)) channel ∙ ap (λ (x : ℕ). Some (i, x)) same
 
-find_past : (test : Unacknowledged → Bool) (xs ys : List Unacknowledged) → find test xs ≡ None → find test (xs ++ ys) ≡ find test ys
+pub find_past : (test : Unacknowledged → Bool) (xs ys : List Unacknowledged) → find test xs ≡ None → find test (xs ++ ys) ≡ find test ys
 find_past test xs ys none = find-append test xs ys ∙ ap (λ (o : Option Unacknowledged). option_or o (find test ys)) none
 
 find_there : (test : Unacknowledged → Bool) (xs ys : List Unacknowledged) (o : Option Unacknowledged) → find test xs ≡ o → is_some o ≡ true
@@ -190,11 +190,11 @@ mapped_some : {X Y : Type 0} (f : X → Y) (o : Option X) (y : Y) → option_map
 mapped_some f None y e = absurd cc
 mapped_some f (Some x) y e = refl
 
-pub lost_here : (now i number : ℕ) (chs : List Channel) (ch : Channel) → i < length chs → find (is_lost now) (before i chs) ≡ None → ch ≡ get_or chs i ch
+pub lost_here : (now i number : ℕ) (chs : List Channel) (ch : Channel) → i < length chs → find (had_last_wait now) (before i chs) ≡ None → ch ≡ get_or chs i ch
     → LostIs now ch (Some number)
-    → option_map name_of (find (is_lost now) (all_held 0 chs)) ≡ Some (i, number)
+    → option_map name_of (find (had_last_wait now) (all_held 0 chs)) ≡ Some (i, number)
 lost_here now i number chs ch lt none read lost =
-    let test : Unacknowledged → Bool = is_lost now in
+    let test : Unacknowledged → Bool = had_last_wait now in
     let own : List Unacknowledged = channel_held i ch in
     let there : find test (own ++ behind i chs) ≡ find test own = find_there test own (behind i chs) (find test own) refl
     (mapped_some (λ (u : Unacknowledged). u.order.number) (find test own) number (lost i)) in
@@ -204,20 +204,21 @@ lost_here now i number chs ch lt none read lost =
     ∙ named_by i number (find test own) (IsOn i (next_of ch))
     (λ u found. (each_find (IsOn i (next_of ch)) test own u (channel_held-on i ch) found).0.0) (lost i)
 
-pub none_more : (now i : ℕ) (chs : List Channel) (ch : Channel) → i < length chs → find (is_lost now) (before i chs) ≡ None → ch ≡ get_or chs i ch
+pub none_more : (now i : ℕ) (chs : List Channel) (ch : Channel) → i < length chs → find (had_last_wait now) (before i chs) ≡ None → ch ≡ get_or chs i ch
     → LostIs now ch None
-    → find (is_lost now) (before (i + 1) chs) ≡ None
+    → find (had_last_wait now) (before (i + 1) chs) ≡ None
 none_more now i chs ch lt none read lost =
-    ap (find (is_lost now))
+    ap (find (had_last_wait now))
     (ap (all_held 0) (take_more chs i ch lt ∙ ap (λ (x : Channel). take i chs ++ x ∷ []) (sym read)) ∙ all_held-append 0 (take i chs) (ch ∷ [])
     ∙ ap (λ (k : ℕ). before i chs ++ all_held k (ch ∷ [])) (at_length i chs lt)
     ∙ ap (λ (us : List Unacknowledged). before i chs ++ us) (append-nil (channel_held i ch)))
-    ∙ find_past (is_lost now) (before i chs) (channel_held i ch) none ∙ map_is_none (λ (u : Unacknowledged). u.order.number)
-    (find (is_lost now) (channel_held i ch)) (lost i)
+    ∙ find_past (had_last_wait now) (before i chs) (channel_held i ch) none ∙ map_is_none (λ (u : Unacknowledged). u.order.number)
+    (find (had_last_wait now) (channel_held i ch)) (lost i)
 
-pub none_at_all : (now : ℕ) (chs : List Channel) → find (is_lost now) (before (length chs) chs) ≡ None
-    → option_map name_of (find (is_lost now) (all_held 0 chs)) ≡ None
-none_at_all now chs none = ap (λ (xs : List Channel). option_map name_of (find (is_lost now) (all_held 0 xs))) (sym (take_all (length chs) chs (omega arith)))
+pub none_at_all : (now : ℕ) (chs : List Channel) → find (had_last_wait now) (before (length chs) chs) ≡ None
+    → option_map name_of (find (had_last_wait now) (all_held 0 chs)) ≡ None
+none_at_all now chs none =
+    ap (λ (xs : List Channel). option_map name_of (find (had_last_wait now) (all_held 0 xs))) (sym (take_all (length chs) chs (omega arith)))
     ∙ ap (option_map name_of) none
 
 -- where no message is lost, none of any channel is
@@ -228,18 +229,18 @@ left_none (Some u) p e = absurd cc
 pub find_none_parts : (test : Unacknowledged → Bool) (xs ys : List Unacknowledged) → find test (xs ++ ys) ≡ None → (find test xs ≡ None) × (find test ys ≡ None)
 find_none_parts test xs ys e = left_none (find test xs) (find test ys) (sym (find-append test xs ys) ∙ e)
 
-any_channel : (now c : ℕ) (ch : Channel) → find (is_lost now) (channel_held c ch) ≡ None → LostIs now ch None
+any_channel : (now c : ℕ) (ch : Channel) → find (had_last_wait now) (channel_held c ch) ≡ None → LostIs now ch None
 any_channel now c ch e k =
     ap (option_map (λ (u : Unacknowledged). u.order.number)) (find_none_in now k ch.first ch.window.items
     (none_is_lost now c ch.first ch.window.items (ap (option_map (λ (u : Unacknowledged). u.order.number)) e)))
 
-none_lost_from : (now c : ℕ) (chs : List Channel) → find (is_lost now) (all_held c chs) ≡ None → All (λ (ch : Channel). LostIs now ch None) chs
+none_lost_from : (now c : ℕ) (chs : List Channel) → find (had_last_wait now) (all_held c chs) ≡ None → All (λ (ch : Channel). LostIs now ch None) chs
 none_lost_from now c [] e = All-nil (λ (ch : Channel). LostIs now ch None)
 none_lost_from now c (ch ∷ chs) e =
-    let parts = find_none_parts (is_lost now) (channel_held c ch) (all_held (suc c) chs) e in
+    let parts = find_none_parts (had_last_wait now) (channel_held c ch) (all_held (suc c) chs) e in
     All-cons (λ (x : Channel). LostIs now x None) ch chs (any_channel now c ch parts.0) (none_lost_from now (suc c) chs parts.1)
 
-pub none_lost : (now : ℕ) (chs : List Channel) → find (is_lost now) (all_held 0 chs) ≡ None → All (λ (ch : Channel). LostIs now ch None) chs
+pub none_lost : (now : ℕ) (chs : List Channel) → find (had_last_wait now) (all_held 0 chs) ≡ None → All (λ (ch : Channel). LostIs now ch None) chs
 none_lost now chs e = none_lost_from now 0 chs e
 
 pub named_none : (o : Option Unacknowledged) → option_map name_of o ≡ None → o ≡ None

@@ -6,7 +6,8 @@ use Rattle.std.proofs.lemmas.List.{append_assoc, length-append}
 use Rattle.gs_enet.specs.declared.event.PeerEvent.{PeerEvent}
 use Rattle.gs_enet.specs.declared.state.PeerState.{PeerState}
 use Rattle.gs_enet.specs.declared.answer.Answer.{Answer}
-use Rattle.gs_enet.specs.Record.{Unacknowledged, Content, Connect, VerifyConnect, Disconnect, Message, Order, Given, channels, fresh, given_on, messages_on}
+use Rattle.gs_enet.specs.Record.{Unacknowledged, Content, Connect, VerifyConnect, Disconnect, Message, Order, GivenMessage, channels, fresh, given_on}
+use Rattle.gs_enet.specs.Record.{messages_on}
 use Rattle.gs_enet.specs.Steps.{placed, comes_before}
 use Rattle.gs_enet.specs.Write.{Item, Answers, Orders}
 use Rattle.gs_enet.specs.World.{Written}
@@ -19,9 +20,9 @@ order_of u = u.order
 
 -- ---- a command at its place among the others
 
-each_placed : (P : Unacknowledged → Type 0) (u : Unacknowledged) (us : List Unacknowledged) → P u → Each P us → Each P (placed u us)
-each_placed P u [] p h = (p, tt)
-each_placed P u (v ∷ vs) p h = here (each_placed P u vs p h.1) (comes_before u.order v.order) where
+pub each_put : (P : Unacknowledged → Type 0) (u : Unacknowledged) (us : List Unacknowledged) → P u → Each P us → Each P (placed u us)
+each_put P u [] p h = (p, tt)
+each_put P u (v ∷ vs) p h = here (each_put P u vs p h.1) (comes_before u.order v.order) where
   here : Each P (placed u vs) → (b : Bool) → Each P (cond b (u ∷ v ∷ vs) (v ∷ placed u vs))
   here later true = (p, h)
   here later false = (h.0, later)
@@ -43,7 +44,7 @@ has_own u (v ∷ vs) = here (has_own u vs) (comes_before u.order v.order) where
 
 -- ---- a message is given
 
-at_more : (xs : List (List ℕ)) (n : ℕ) (x y : List ℕ) → IsAt xs n x → IsAt (xs ++ y ∷ []) n x
+pub at_more : (xs : List (List ℕ)) (n : ℕ) (x y : List ℕ) → IsAt xs n x → IsAt (xs ++ y ∷ []) n x
 at_more xs n x y h =
     record {
       front = h.front;
@@ -52,26 +53,26 @@ at_more xs n x y h =
       at = h.at;
     }
 
-at_given : (gv : List Given) (c : ℕ) (bytes : List ℕ) (d n : ℕ) (x : List ℕ) → IsAt (given_on d gv) n x → IsAt (given_on d (gv ++ giving c bytes)) n x
+at_given : (gv : List GivenMessage) (c : ℕ) (bytes : List ℕ) (d n : ℕ) (x : List ℕ) → IsAt (given_on d gv) n x → IsAt (given_on d (gv ++ giving c bytes)) n x
 at_given gv c bytes d n x h = elim (cases_eq c d) [
   | inl same ↦ subst (λ (e : ℕ). IsAt (given_on e gv) n x → IsAt (given_on e (gv ++ giving c bytes)) n x) same
       (λ at_c. subst (λ (xs : List (List ℕ)). IsAt xs n x) (sym (given_on-own c bytes gv)) (at_more (given_on c gv) n x bytes at_c)) h
   | inr other ↦ subst (λ (xs : List (List ℕ)). IsAt xs n x) (sym (given_on-apart d c bytes gv other)) h
 ]
 
-says_given : (gv : List Given) (hr : List PeerEvent) (sg : PeerState) → (IsOver sg → ⊥) → (c : ℕ) (bytes : List ℕ) (content : Content) (d n : ℕ)
+says_given : (gv : List GivenMessage) (hr : List PeerEvent) (sg : PeerState) → (IsOver sg → ⊥) → (c : ℕ) (bytes : List ℕ) (content : Content) (d n : ℕ)
     → Says gv hr sg content d n → Says (gv ++ giving c bytes) hr sg content d n
 says_given gv hr sg up c bytes (Message other) d n h = (h.0, at_given gv c bytes d n other h.1)
 says_given gv hr sg up c bytes Disconnect d n h = absurd (up h.1.over)
 says_given gv hr sg up c bytes Connect d n h = h
 says_given gv hr sg up c bytes VerifyConnect d n h = h
 
-item_given : (gv : List Given) (hr : List PeerEvent) (sg : PeerState) → (IsOver sg → ⊥) → (c : ℕ) (bytes : List ℕ) (x : Item)
+item_given : (gv : List GivenMessage) (hr : List PeerEvent) (sg : PeerState) → (IsOver sg → ⊥) → (c : ℕ) (bytes : List ℕ) (x : Item)
     → IsTrueOrder gv hr sg x → IsTrueOrder (gv ++ giving c bytes) hr sg x
 item_given gv hr sg up c bytes (Orders o) h = says_given gv hr sg up c bytes o.content o.channel o.number h
 item_given gv hr sg up c bytes (Answers a) h = tt
 
-window_given : (gv : List Given) (c : ℕ) (bytes : List ℕ) (o : Order) → (o.channel ≡ c → length (given_on c gv) + 1 < o.number + 256) → IsInWindow gv o
+window_given : (gv : List GivenMessage) (c : ℕ) (bytes : List ℕ) (o : Order) → (o.channel ≡ c → length (given_on c gv) + 1 < o.number + 256) → IsInWindow gv o
     → IsInWindow (gv ++ giving c bytes) o
 window_given gv c bytes o own h below = elim (cases_eq c o.channel) [
   | inl same ↦ subst (λ (e : ℕ). length (given_on e (gv ++ giving c bytes)) < o.number + 256) same
@@ -80,7 +81,7 @@ window_given gv c bytes o own h below = elim (cases_eq c o.channel) [
 ]
 
 -- a message on a channel whose held commands are all among the last 255
-pub gives : {gv : List Given} {sg : PeerState} {hg : List PeerEvent} {wg : List Written} {hr : List PeerEvent} {pr : List Answer} {sr : PeerState}
+pub gives : {gv : List GivenMessage} {sg : PeerState} {hg : List PeerEvent} {wg : List Written} {hr : List PeerEvent} {pr : List Answer} {sr : PeerState}
     {wr : List Written}
     (us : List Unacknowledged) (c : ℕ) (bytes : List ℕ) → Kept gv (map order_of us) sg hg wg hr pr sr wr → (IsOver sg → ⊥) → c < channels
     → Each (λ (u : Unacknowledged). u.order.channel ≡ c → length (given_on c gv) + 1 < u.order.number + 256) us
@@ -88,7 +89,7 @@ pub gives : {gv : List Given} {sg : PeerState} {hg : List PeerEvent} {wg : List 
 gives {gv = gv} {sg = sg} {wg = wg} {hr = hr} us c bytes k up below room =
     let n : ℕ = length (given_on c gv) + 1 in
     let u : Unacknowledged = fresh (Message bytes) c n in
-    let gv' : List Given = gv ++ giving c bytes in
+    let gv' : List GivenMessage = gv ++ giving c bytes in
     let own : given_on c gv' ≡ given_on c gv ++ bytes ∷ [] = given_on-own c bytes gv in
     let size : length (given_on c gv') ≡ n = ap length own ∙ length-append (given_on c gv) (bytes ∷ []) in
     let place : IsAt (given_on c gv') n bytes = record { front = given_on c gv; rest = []; parts = own; at = refl } in
@@ -108,7 +109,7 @@ gives {gv = gv} {sg = sg} {wg = wg} {hr = hr} us c bytes k up below room =
       ];
       outside = λ d above. given_on-apart d c bytes gv (λ same. omega (arith, same)) ∙ k.outside d above;
       held = each_map (IsHeld gv' hr sg) order_of (placed u us)
-          (each_placed (λ (v : Unacknowledged). IsHeld gv' hr sg v.order) u us ((below, place), λ _. omega (arith, size)) old);
+          (each_put (λ (v : Unacknowledged). IsHeld gv' hr sg v.order) u us ((below, place), λ _. omega (arith, size)) old);
       covered = λ d m least most. elim (cases_eq c d) [
         | inl same ↦ subst (λ (e : ℕ). (m ≤ length (given_on e gv')) → (m ≤ count_of e hr) ⊎ Has e m (map order_of (placed u us))) same
             (λ most_c. elim (cases_eq m n) [
@@ -134,7 +135,7 @@ gives {gv = gv} {sg = sg} {wg = wg} {hr = hr} us c bytes k up below room =
 
 -- ---- what a full window is
 
-room_from_test : (c next : ℕ) (u : Unacknowledged) → ((u.order.channel == c) && nat_le (u.order.number + 256) next) ≡ false → u.order.channel ≡ c
+pub room_from_test : (c next : ℕ) (u : Unacknowledged) → ((u.order.channel == c) && nat_le (u.order.number + 256) next) ≡ false → u.order.channel ≡ c
     → next < u.order.number + 256
 room_from_test c next u e same = elim (and_cases (u.order.channel == c) (nat_le (u.order.number + 256) next) e) [
   | inl apart ↦ absurd (false≢true (sym apart ∙ eq-eqb u.order.channel c same))

@@ -1,5 +1,6 @@
 -- What a step keeps of one side, seen from the messages that it hears on one channel.
-use Rattle.std.proofs.Common.{◌≡◌, ◌⊎◌, ◌<◌, ◌≤◌, ◌+◌, ℕ, suc, Bool, true, false, not, cond, List, [], ◌∷◌, ◌++◌, map, Option, Some, None, refl, sym, ap, subst}
+use Rattle.gs_bytes.proofs.Lists.{contains_behind}
+use Rattle.std.proofs.Common.{◌≡◌, ◌⊎◌, ◌<◌, ◌≤◌, ◌+◌, ℕ, Bool, true, false, not, cond, List, [], ◌∷◌, ◌++◌, map, Option, Some, None, refl, sym, ap, subst}
 use Rattle.std.proofs.Common.{◌∙◌, arith, inl, inr}
 use Rattle.std.specs.Prelude.{◌==◌, Contains}
 use Rattle.std.specs.List.{filter}
@@ -14,7 +15,7 @@ use Rattle.gs_enet.specs.declared.answer.Answer.{Answer}
 use Rattle.gs_enet.specs.Record.{PeerRecord, Unacknowledged, Content, Connect, VerifyConnect, Disconnect, Message, channels, control, messages_on}
 use Rattle.gs_enet.specs.Record.{heard, shut, happened, owing}
 use Rattle.gs_enet.specs.Receive.{takes_messages, message_if, verified, verify_if, disconnect_if, leave_if, connected, acknowledged, is_named, acknowledged_if}
-use Rattle.gs_enet.specs.Receive.{answer_to}
+use Rattle.gs_enet.specs.Receive.{owed_answer}
 use Rattle.gs_enet.specs.Steps.{close_if, telling, timed_if, with_message}
 use Rattle.gs_enet.specs.Write.{Answers}
 use Rattle.gs_enet.specs.World.{sent_if}
@@ -60,9 +61,6 @@ quiet_then c G r s t k l =
 
 -- ---- events
 
-later : (e : PeerEvent) (es : List PeerEvent) (x : PeerEvent) → Contains es x → Contains (e ∷ es) x
-later e es x h = (suc h.0, omega (arith, h.1), h.2)
-
 -- behind the other side's disconnect only what is no message may arise
 pub last_event : (es : List PeerEvent) (e : PeerEvent) → (Contains es event.PeerClosed → IsNoMessage e) → IsLast es → IsLast (es ++ e ∷ [])
 last_event [] e quiet h = (nothing_after e, tt) where
@@ -75,10 +73,11 @@ last_event [] e quiet h = (nothing_after e, tt) where
 last_event (event.PeerClosed ∷ es) e quiet h =
     let none : IsNoMessage e = quiet (0, omega arith, refl) in
     (λ c. messages_on-other c es e none ∙ h.0 c, last_event es e (λ _. none) h.1)
-last_event (event.Connected ∷ es) e quiet h = (tt, last_event es e (λ has. quiet (later event.Connected es event.PeerClosed has)) h.1)
-last_event (event.Closed ∷ es) e quiet h = (tt, last_event es e (λ has. quiet (later event.Closed es event.PeerClosed has)) h.1)
-last_event (event.Message c n bytes ∷ es) e quiet h = (tt, last_event es e (λ has. quiet (later (event.Message c n bytes) es event.PeerClosed has)) h.1)
-last_event (event.Lost c n ∷ es) e quiet h = (tt, last_event es e (λ has. quiet (later (event.Lost c n) es event.PeerClosed has)) h.1)
+last_event (event.Connected ∷ es) e quiet h = (tt, last_event es e (λ has. quiet (contains_behind event.Connected es event.PeerClosed has)) h.1)
+last_event (event.Closed ∷ es) e quiet h = (tt, last_event es e (λ has. quiet (contains_behind event.Closed es event.PeerClosed has)) h.1)
+last_event (event.Message c n bytes ∷ es) e quiet h =
+    (tt, last_event es e (λ has. quiet (contains_behind (event.Message c n bytes) es event.PeerClosed has)) h.1)
+last_event (event.Lost c n ∷ es) e quiet h = (tt, last_event es e (λ has. quiet (contains_behind (event.Lost c n) es event.PeerClosed has)) h.1)
 
 -- what is heard once an event has arisen
 pub heard_more : (e : PeerEvent) (r : PeerRecord) → heard (happened e r) ≡ heard r ++ e ∷ []
@@ -190,13 +189,13 @@ quiet_timed c G false (Some u) r = quiet_shut c G (event.Lost u.order.channel u.
 -- ---- what is read and is no message
 
 pub quiet_verified : (c : ℕ) (G : Type 0) (st : PeerState) (peer sent number : ℕ) (r : PeerRecord) → r.state ≡ st
-    → Quiet c G r (verified st peer (answer_to sent control number) r)
-quiet_verified c G state.Connected peer sent number r is = quiet_owing c G (answer_to sent control number) r (not_control c)
-quiet_verified c G state.Closing peer sent number r is = quiet_owing c G (answer_to sent control number) r (not_control c)
+    → Quiet c G r (verified st peer (owed_answer sent control number) r)
+quiet_verified c G state.Connected peer sent number r is = quiet_owing c G (owed_answer sent control number) r (not_control c)
+quiet_verified c G state.Closing peer sent number r is = quiet_owing c G (owed_answer sent control number) r (not_control c)
 quiet_verified c G state.Accepting peer sent number r is = quiet_still c G r r refl (omega arith) (λ h. h)
 quiet_verified c G state.Shut peer sent number r is = quiet_still c G r r refl (omega arith) (λ h. h)
 quiet_verified c G state.Connecting peer sent number r is =
-    let a : Answer = answer_to sent control number in
+    let a : Answer = owed_answer sent control number in
     let up : PeerRecord = record (happened event.Connected r) { state = state.Connected } in
     quiet_then c G r up (verified state.Connecting peer a r)
     (quiet_event c G state.Connected event.Connected r tt (λ over. absurd (subst IsShut is over)) (λ clash. absurd cc))
@@ -204,15 +203,15 @@ quiet_verified c G state.Connecting peer sent number r is =
     (quiet_still c G (owing a up) (verified state.Connecting peer a r) refl (omega arith) (λ h. h)))
 
 pub quiet_verify_if : (c : ℕ) (G : Type 0) (own : Bool) (peer sent number : ℕ) (r : PeerRecord)
-    → Quiet c G r (verify_if own peer (answer_to sent control number) r)
+    → Quiet c G r (verify_if own peer (owed_answer sent control number) r)
 quiet_verify_if c G true peer sent number r = quiet_verified c G r.state peer sent number r refl
 quiet_verify_if c G false peer sent number r = quiet_still c G r r refl (omega arith) (λ h. h)
 
 pub quiet_disconnect : (c : ℕ) (G : Type 0) (again : Bool) (sent number : ℕ) (r : PeerRecord) → G
-    → Quiet c G r (disconnect_if again (record (answer_to sent control number) { to_disconnect = true }) r)
-quiet_disconnect c G true sent number r g = quiet_owing c G (record (answer_to sent control number) { to_disconnect = true }) r (not_control c)
+    → Quiet c G r (disconnect_if again (record (owed_answer sent control number) { to_disconnect = true }) r)
+quiet_disconnect c G true sent number r g = quiet_owing c G (record (owed_answer sent control number) { to_disconnect = true }) r (not_control c)
 quiet_disconnect c G false sent number r g =
-    let a : Answer = record (answer_to sent control number) { to_disconnect = true } in
+    let a : Answer = record (owed_answer sent control number) { to_disconnect = true } in
     let over : PeerRecord = shut (happened event.PeerClosed r) in
     quiet_then c G r over (disconnect_if false a r) (quiet_shut c G event.PeerClosed r tt (λ _. g))
     (quiet_then c G over (owing a over) (disconnect_if false a r) (quiet_owing c G a over (not_control c))
@@ -247,10 +246,10 @@ taking_is_not_shut state.Connecting e h = h
 taking_is_not_shut state.Accepting e h = h
 
 pub quiet_message : (c : ℕ) (G : Type 0) (next behind : Bool) (d n : ℕ) (bytes : List ℕ) (sent number : ℕ) (r : PeerRecord) → (d ≡ c → ⊥) → (IsShut r.state → ⊥)
-    → Quiet c G r (message_if next behind d n bytes (answer_to sent d number) r)
+    → Quiet c G r (message_if next behind d n bytes (owed_answer sent d number) r)
 quiet_message c G true behind d n bytes sent number r apart going =
     let e : PeerEvent = event.Message d n bytes in
-    quiet_then c G r (happened e r) (owing (answer_to sent d number) (happened e r)) (quiet_apart c G d n bytes r apart going)
-    (quiet_owing c G (answer_to sent d number) (happened e r) (λ _. apart))
-quiet_message c G false true d n bytes sent number r apart going = quiet_owing c G (answer_to sent d number) r (λ _. apart)
+    quiet_then c G r (happened e r) (owing (owed_answer sent d number) (happened e r)) (quiet_apart c G d n bytes r apart going)
+    (quiet_owing c G (owed_answer sent d number) (happened e r) (λ _. apart))
+quiet_message c G false true d n bytes sent number r apart going = quiet_owing c G (owed_answer sent d number) r (λ _. apart)
 quiet_message c G false false d n bytes sent number r apart going = quiet_still c G r r refl (omega arith) (λ h. h)

@@ -2,15 +2,15 @@
 use Rattle.std.proofs.Common.{◌≡◌, ◌<◌, ◌≤◌, ◌+◌, ◌-◌, ◌%◌, ℕ, Bool, true, false, List, [], ◌∷◌, ◌++◌, length, refl, sym, ap, subst, ◌∙◌, arith, inl, inr}
 use Rattle.std.specs.Prelude.{◌==◌, ◌&&◌, nat_lt, Contains}
 use Rattle.std.proofs.lemmas.Bool.{and_parts, eqb-true, eq-eqb, leb-true}
-use Rattle.std.proofs.lemmas.List.{append_assoc, length-append}
+use Rattle.std.proofs.lemmas.List.{length-append}
 use Rattle.gs_enet.specs.declared.event.PeerEvent.{PeerEvent}
 use Rattle.gs_enet.specs.declared.event.PeerEvent.TheVariants as event
 use Rattle.gs_enet.specs.Record.{PeerRecord, channels, messages_on, heard, happened, owing}
-use Rattle.gs_enet.specs.Receive.{takes_messages, expected, distance, message_if, is_next, is_behind, taken_if, answer_to}
+use Rattle.gs_enet.specs.Receive.{takes_messages, expected, distance, message_if, is_next, is_behind, taken_if, owed_answer}
 use Rattle.gs_enet.specs.World.{Written}
 use Rattle.gs_bytes.specs.Prefix.{IsPrefixOf}
 use Rattle.gs_enet.proofs.Kept.{IsShut, IsLast, IsAt, count_of, messages_on-message}
-use Rattle.gs_enet.proofs.Moves.{same_front}
+use Rattle.gs_enet.proofs.Moves.{grown}
 use Rattle.gs_enet.proofs.WrittenMessages.{one_if, put_answers}
 use Rattle.gs_enet.proofs.Hearing.{owed_on, Quiet, last_event, heard_more, owed_more, taking_is_not_shut}
 use Rattle.std.proofs.lemmas.List.Elements.{Contains-push_cases}
@@ -45,12 +45,6 @@ hears_higher c ms G low low' r ws le k = record { in_order = k.in_order; fewer =
 
 -- ---- a message of the channel
 
-more_front : (known rest all : List (List ℕ)) (n : ℕ) (bytes : List ℕ) → all ≡ known ++ rest → n ≡ length known + 1 → IsAt all n bytes
-    → IsPrefixOf (known ++ bytes ∷ []) all
-more_front known rest all n bytes e count place =
-    let same : known ≡ place.front = same_front known rest place.front (bytes ∷ place.rest) (sym e ∙ place.parts) (omega (arith, place.at, count)) in
-    (place.rest, place.parts ∙ ap (λ (w : List (List ℕ)). w ++ bytes ∷ place.rest) (sym same) ∙ sym (append_assoc known (bytes ∷ []) place.rest))
-
 next_is : (n e : ℕ) → e ≤ n → n ≤ e + 256 → (n % 65536 + 65536 - e % 65536) % 65536 ≡ 0 → n ≡ e
 next_is n e least most d = omega arith
 
@@ -59,7 +53,7 @@ never_behind n e least most d = omega arith
 
 hears_next : (c : ℕ) (ms : List (List ℕ)) (G : Type 0) (low sent number : ℕ) (bytes : List ℕ) (r : PeerRecord) (ws : List Written)
     → (IsShut r.state → ⊥) → IsAt ms (expected r c) bytes → low < expected r c → Hears c ms G low r ws
-    → Hears c ms G (expected r c) (owing (answer_to sent c number) (happened (event.Message c (expected r c) bytes) r)) ws
+    → Hears c ms G (expected r c) (owing (owed_answer sent c number) (happened (event.Message c (expected r c) bytes) r)) ws
 hears_next c ms G low sent number bytes r ws going place less k =
     let e : PeerEvent = event.Message c (expected r c) bytes in
     let told : messages_on c (heard (happened e r)) ≡ messages_on c (heard r) ++ bytes ∷ [] =
@@ -67,9 +61,9 @@ hears_next c ms G low sent number bytes r ws going place less k =
     let more : count_of c (heard (happened e r)) ≡ expected r c = ap length told ∙ length-append (messages_on c (heard r)) (bytes ∷ []) in
     let none : Contains (heard r) event.PeerClosed → ⊥ = λ has. going (k.closed has).0 in
     record {
-      in_order = subst (λ (x : List (List ℕ)). IsPrefixOf x ms) (sym told) (more_front (messages_on c (heard r)) k.in_order.0 ms (expected r c) bytes
+      in_order = subst (λ (x : List (List ℕ)). IsPrefixOf x ms) (sym told) (grown (messages_on c (heard r)) k.in_order.0 ms (expected r c) bytes
           k.in_order.1 refl place);
-      fewer = λ below. omega (arith, k.fewer below, owed_more c (answer_to sent c number) r.pending, ap one_if (eq-eqb c c refl), more);
+      fewer = λ below. omega (arith, k.fewer below, owed_more c (owed_answer sent c number) r.pending, ap one_if (eq-eqb c c refl), more);
       most = omega (arith, more);
       closed = λ has. elim (Contains-push_cases (heard r) e event.PeerClosed (subst (λ (x : List PeerEvent). Contains x event.PeerClosed) (heard_more e r)
           has)) [
@@ -82,11 +76,11 @@ hears_next c ms G low sent number bytes r ws going place less k =
 hears_message : (c : ℕ) (ms : List (List ℕ)) (G : Type 0) (low n : ℕ) (next behind : Bool) (bytes : List ℕ) (sent : ℕ) (r : PeerRecord) (ws : List Written)
     → is_next (n % 65536) (expected r c) ≡ next → is_behind (n % 65536) (expected r c) ≡ behind → (IsShut r.state → ⊥) → IsAt ms n bytes
     → low < n → n ≤ expected r c + 256 → Hears c ms G low r ws
-    → Hears c ms G n (message_if next behind c (expected r c) bytes (answer_to sent c (n % 65536)) r) ws
+    → Hears c ms G n (message_if next behind c (expected r c) bytes (owed_answer sent c (n % 65536)) r) ws
 hears_message c ms G low n true behind bytes sent r ws is_it b going place less most k =
     let least : expected r c ≤ n = omega (arith, k.most, less) in
     let same : n ≡ expected r c = next_is n (expected r c) least most (eqb-true _ 0 (and_parts (distance (n % 65536) (expected r c) == 0) _ is_it).0) in
-    subst (λ (x : ℕ). Hears c ms G x (owing (answer_to sent c (n % 65536)) (happened (event.Message c (expected r c) bytes) r)) ws) (sym same)
+    subst (λ (x : ℕ). Hears c ms G x (owing (owed_answer sent c (n % 65536)) (happened (event.Message c (expected r c) bytes) r)) ws) (sym same)
     (hears_next c ms G low sent (n % 65536) bytes r ws going (subst (λ (x : ℕ). IsAt ms x bytes) same place) (omega (arith, same, less)) k)
 hears_message c ms G low n false true bytes sent r ws not_it is_it going place less most k =
     absurd (never_behind n (expected r c) (omega (arith, k.most, less)) most (leb-true 32768 _ is_it))
@@ -94,21 +88,21 @@ hears_message c ms G low n false false bytes sent r ws not_it not_behind going p
 
 pub hears_own : (c : ℕ) (ms : List (List ℕ)) (G : Type 0) (low n : ℕ) (taking : Bool) (bytes : List ℕ) (sent : ℕ) (r : PeerRecord) (ws : List Written)
     → (nat_lt c channels && takes_messages r.state) ≡ taking → IsAt ms n bytes → low < n → n ≤ expected r c + 256 → Hears c ms G low r ws
-    → Hears c ms G n (taken_if taking c (n % 65536) bytes (answer_to sent c (n % 65536)) r) ws
+    → Hears c ms G n (taken_if taking c (n % 65536) bytes (owed_answer sent c (n % 65536)) r) ws
 hears_own c ms G low n true bytes sent r ws e place less most k =
     hears_message c ms G low n (is_next (n % 65536) (expected r c)) (is_behind (n % 65536) (expected r c)) bytes sent r ws refl refl
     (taking_is_not_shut r.state (and_parts (nat_lt c channels) (takes_messages r.state) e).1) place less most k
 hears_own c ms G low n false bytes sent r ws e place less most k = hears_higher c ms G low n r ws (omega (arith, less)) k
 
 pub owed_own : (c : ℕ) (taking : Bool) (bytes : List ℕ) (sent number : ℕ) (r : PeerRecord)
-    → owed_on c (taken_if taking c number bytes (answer_to sent c number) r) ≤ owed_on c r + 1
+    → owed_on c (taken_if taking c number bytes (owed_answer sent c number) r) ≤ owed_on c r + 1
 owed_own c false bytes sent number r = omega arith
 owed_own c true bytes sent number r = here (is_next number (expected r c)) (is_behind number (expected r c)) where
   one : (b : Bool) → one_if b ≤ 1
   one true = omega arith
   one false = omega arith
 
-  here : (next behind : Bool) → owed_on c (message_if next behind c (expected r c) bytes (answer_to sent c number) r) ≤ owed_on c r + 1
-  here true behind = omega (arith, owed_more c (answer_to sent c number) r.pending, one (c == c))
-  here false true = omega (arith, owed_more c (answer_to sent c number) r.pending, one (c == c))
+  here : (next behind : Bool) → owed_on c (message_if next behind c (expected r c) bytes (owed_answer sent c number) r) ≤ owed_on c r + 1
+  here true behind = omega (arith, owed_more c (owed_answer sent c number) r.pending, one (c == c))
+  here false true = omega (arith, owed_more c (owed_answer sent c number) r.pending, one (c == c))
   here false false = omega arith

@@ -9,9 +9,7 @@ use Rattle.gs_enet.specs.Receive.{is_named}
 use Rattle.gs_enet.specs.Steps.{rank, comes_before, placed}
 use Rattle.gs_enet.proofs.Lists.{Each, each_weaker, each_unmap}
 use Rattle.gs_enet.proofs.Rising.{Numbered, numbered, Rising, rising_after, rising_back, is_other}
-
-abbrev pub order_of : Unacknowledged → Order
-order_of u = u.order
+use Rattle.gs_enet.proofs.Giving.{order_of}
 
 -- the message that the command is, if it is one on that channel
 abbrev pub message_of : ℕ → Content → ℕ → ℕ → List Numbered
@@ -60,13 +58,6 @@ pub each_placed : (P : Order → Type 0) (u : Unacknowledged) (us : List Unackno
 each_placed P u [] p h = (p, tt)
 each_placed P u (v ∷ vs) p h = here (each_placed P u vs p h.1) (comes_before u.order v.order) where
   here : Each P (map order_of (placed u vs)) → (b : Bool) → Each P (map order_of (cond b (u ∷ v ∷ vs) (v ∷ placed u vs)))
-  here later true = (p, h)
-  here later false = (h.0, later)
-
-pub each_put : (P : Unacknowledged → Type 0) (u : Unacknowledged) (us : List Unacknowledged) → P u → Each P us → Each P (placed u us)
-each_put P u [] p h = (p, tt)
-each_put P u (v ∷ vs) p h = here (each_put P u vs p h.1) (comes_before u.order v.order) where
-  here : Each P (placed u vs) → (b : Bool) → Each P (cond b (u ∷ v ∷ vs) (v ∷ placed u vs))
   here later true = (p, h)
   here later false = (h.0, later)
 

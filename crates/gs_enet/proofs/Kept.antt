@@ -8,7 +8,7 @@ use Rattle.gs_enet.specs.declared.event.PeerEvent.TheVariants as event
 use Rattle.gs_enet.specs.declared.state.PeerState.{PeerState}
 use Rattle.gs_enet.specs.declared.state.PeerState.TheVariants as state
 use Rattle.gs_enet.specs.declared.answer.Answer.{Answer}
-use Rattle.gs_enet.specs.Record.{Content, Connect, VerifyConnect, Disconnect, Message, Order, Given, channels, control, given_on, messages_on, heard}
+use Rattle.gs_enet.specs.Record.{Content, Connect, VerifyConnect, Disconnect, Message, Order, GivenMessage, channels, control, given_on, messages_on, heard}
 use Rattle.gs_enet.specs.Write.{Item, Answers, Orders}
 use Rattle.gs_enet.specs.World.{Written}
 use Rattle.gs_bytes.specs.Prefix.{IsPrefixOf}
@@ -60,23 +60,23 @@ messages_on-apart c d n bytes es apart =
       own true e = absurd (apart (eqb-true d c e))
       own false e = refl
 
-given_on-append : (c : ℕ) (gs hs : List Given) → given_on c (gs ++ hs) ≡ given_on c gs ++ given_on c hs
+given_on-append : (c : ℕ) (gs hs : List GivenMessage) → given_on c (gs ++ hs) ≡ given_on c gs ++ given_on c hs
 given_on-append c [] hs = refl
 given_on-append c (g ∷ gs) hs = more (g.channel == c) g.bytes (given_on c gs) (given_on c hs) (given_on c (gs ++ hs)) (given_on-append c gs hs) where
   more : (b : Bool) (x : List ℕ) (xs ys zs : List (List ℕ)) → zs ≡ xs ++ ys → cond b (x ∷ zs) zs ≡ cond b (x ∷ xs) xs ++ ys
   more true x xs ys zs e = ap (λ w. x ∷ w) e
   more false x xs ys zs e = e
 
-abbrev pub giving : ℕ → List ℕ → List Given
+abbrev pub giving : ℕ → List ℕ → List GivenMessage
 giving c bytes = (record { channel = c; bytes = bytes }) ∷ []
 
-pub given_on-own : (c : ℕ) (bytes : List ℕ) (gs : List Given) → given_on c (gs ++ giving c bytes) ≡ given_on c gs ++ bytes ∷ []
+pub given_on-own : (c : ℕ) (bytes : List ℕ) (gs : List GivenMessage) → given_on c (gs ++ giving c bytes) ≡ given_on c gs ++ bytes ∷ []
 given_on-own c bytes gs = given_on-append c gs (giving c bytes) ∙ ap (λ w. given_on c gs ++ w) (own (c == c) refl) where
   own : (b : Bool) → (c == c) ≡ b → cond b (bytes ∷ []) [] ≡ bytes ∷ []
   own true e = refl
   own false e = absurd (eqb-false c c e refl)
 
-pub given_on-apart : (c d : ℕ) (bytes : List ℕ) (gs : List Given) → (d ≡ c → ⊥) → given_on c (gs ++ giving d bytes) ≡ given_on c gs
+pub given_on-apart : (c d : ℕ) (bytes : List ℕ) (gs : List GivenMessage) → (d ≡ c → ⊥) → given_on c (gs ++ giving d bytes) ≡ given_on c gs
 given_on-apart c d bytes gs apart =
     given_on-append c gs (giving d bytes) ∙ ap (λ w. given_on c gs ++ w) (own (d == c) refl) ∙ append-nil (given_on c gs) where
       own : (b : Bool) → (d == c) ≡ b → cond b (bytes ∷ []) [] ≡ []
@@ -102,25 +102,25 @@ IsShut state.Shut = Unit {0}
 IsShut _ = ⊥
 
 -- all that was given is heard, and nothing more will be given
-pub record IsDone (gv : List Given) (hr : List PeerEvent) (sg : PeerState) : Type 0 where
+pub record IsDone (gv : List GivenMessage) (hr : List PeerEvent) (sg : PeerState) : Type 0 where
   pub all : (c : ℕ) → length (given_on c gv) ≤ count_of c hr
   pub over : IsOver sg
 
 -- what a command that the giver sends tells of it
-abbrev pub Says : List Given → List PeerEvent → PeerState → Content → ℕ → ℕ → Type 0
+abbrev pub Says : List GivenMessage → List PeerEvent → PeerState → Content → ℕ → ℕ → Type 0
 Says gv hr sg (Message bytes) c n = (c < channels) × IsAt (given_on c gv) n bytes
 Says gv hr sg Disconnect c n = (c ≡ control) × IsDone gv hr sg
 Says gv hr sg Connect c n = c ≡ control
 Says gv hr sg VerifyConnect c n = c ≡ control
 
-abbrev pub SaysOrder : List Given → List PeerEvent → PeerState → Order → Type 0
+abbrev pub SaysOrder : List GivenMessage → List PeerEvent → PeerState → Order → Type 0
 SaysOrder gv hr sg o = Says gv hr sg o.content o.channel o.number
 
 -- the command's number is among the last 256 of its channel
-abbrev pub IsInWindow : List Given → Order → Type 0
+abbrev pub IsInWindow : List GivenMessage → Order → Type 0
 IsInWindow gv o = o.channel < channels → length (given_on o.channel gv) < o.number + 256
 
-abbrev pub IsHeld : List Given → List PeerEvent → PeerState → Order → Type 0
+abbrev pub IsHeld : List GivenMessage → List PeerEvent → PeerState → Order → Type 0
 IsHeld gv hr sg o = SaysOrder gv hr sg o × IsInWindow gv o
 
 -- a command with that number on that channel is among them
@@ -135,7 +135,7 @@ HasAnswered count number = (n : ℕ) × (n ≤ count) × (n % 65536 ≡ number)
 abbrev pub IsTrueAnswer : List PeerEvent → Answer → Type 0
 IsTrueAnswer hr a = a.channel < channels → HasAnswered (count_of a.channel hr) a.number
 
-abbrev pub IsTrueOrder : List Given → List PeerEvent → PeerState → Item → Type 0
+abbrev pub IsTrueOrder : List GivenMessage → List PeerEvent → PeerState → Item → Type 0
 IsTrueOrder gv hr sg (Orders o) = SaysOrder gv hr sg o
 IsTrueOrder gv hr sg (Answers a) = Unit {0}
 
@@ -146,7 +146,7 @@ AnswersTruly hr (Orders o) = Unit {0}
 abbrev pub IsFewer : List PeerEvent → List PeerEvent → Type 0
 IsFewer es fs = (c : ℕ) → count_of c es ≤ count_of c fs
 
-abbrev pub OrdersOut : List Given → List PeerEvent → PeerState → Written → Type 0
+abbrev pub OrdersOut : List GivenMessage → List PeerEvent → PeerState → Written → Type 0
 OrdersOut gv hr sg w = Each (IsTrueOrder gv hr sg) w.items
 
 abbrev pub AnswersOut : List PeerEvent → Written → Type 0
@@ -163,7 +163,7 @@ IsLast (e ∷ es) = NothingAfter e es × IsLast es
 
 -- Of the giver: what it gave, the commands that it holds, its state, what it heard and wrote. Of the reader: what it heard, the
 -- answers that it owes, its state and what it wrote.
-pub record Kept (gv : List Given) (os : List Order) (sg : PeerState) (hg : List PeerEvent) (wg : List Written)
+pub record Kept (gv : List GivenMessage) (os : List Order) (sg : PeerState) (hg : List PeerEvent) (wg : List Written)
     (hr : List PeerEvent) (pr : List Answer) (sr : PeerState) (wr : List Written) : Type 0 where
   pub in_order : (c : ℕ) → IsPrefixOf (messages_on c hr) (given_on c gv)
   pub outside : (c : ℕ) → channels ≤ c → given_on c gv ≡ []

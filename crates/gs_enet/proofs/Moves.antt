@@ -1,4 +1,5 @@
 -- How what is kept goes on.
+use Rattle.gs_bytes.proofs.Lists.{contains_behind}
 use Rattle.std.proofs.Common.{◌≡◌, ◌⊎◌, ◌≤◌, ◌+◌, ℕ, suc, List, [], ◌∷◌, ◌++◌, length, refl, sym, ap, subst, ◌∙◌, arith, inl, inr}
 use Rattle.std.specs.Prelude.{Contains}
 use Rattle.std.proofs.lemmas.Bool.{cases_eq}
@@ -8,7 +9,7 @@ use Rattle.gs_enet.specs.declared.event.PeerEvent.{PeerEvent}
 use Rattle.gs_enet.specs.declared.event.PeerEvent.TheVariants as event
 use Rattle.gs_enet.specs.declared.state.PeerState.{PeerState}
 use Rattle.gs_enet.specs.declared.answer.Answer.{Answer}
-use Rattle.gs_enet.specs.Record.{Content, Connect, VerifyConnect, Disconnect, Message, Order, Given, given_on, messages_on}
+use Rattle.gs_enet.specs.Record.{Content, Connect, VerifyConnect, Disconnect, Message, Order, GivenMessage, given_on, messages_on}
 use Rattle.gs_enet.specs.Write.{Item, Answers, Orders}
 use Rattle.gs_enet.specs.World.{Written}
 use Rattle.gs_bytes.specs.Prefix.{IsPrefixOf}
@@ -16,37 +17,37 @@ use Rattle.gs_enet.proofs.Lists.{Each, each_weaker}
 use Rattle.gs_enet.proofs.Kept.{Kept, IsDone, IsOver, IsShut, IsAt, Says, IsHeld, Has, IsTrueAnswer, IsTrueOrder, IsFewer, OrdersOut, AnswersOut, NothingAfter}
 use Rattle.gs_enet.proofs.Kept.{IsLast, IsNoMessage, count_of, messages_on-other, messages_on-message, messages_on-apart}
 
-says_more : (gv : List Given) (hr hr' : List PeerEvent) (sg sg' : PeerState) → (IsDone gv hr sg → IsDone gv hr' sg') → (content : Content) (c n : ℕ)
+says_more : (gv : List GivenMessage) (hr hr' : List PeerEvent) (sg sg' : PeerState) → (IsDone gv hr sg → IsDone gv hr' sg') → (content : Content) (c n : ℕ)
     → Says gv hr sg content c n → Says gv hr' sg' content c n
 says_more gv hr hr' sg sg' done (Message bytes) c n h = h
 says_more gv hr hr' sg sg' done Disconnect c n h = (h.0, done h.1)
 says_more gv hr hr' sg sg' done Connect c n h = h
 says_more gv hr hr' sg sg' done VerifyConnect c n h = h
 
-item_more : (gv : List Given) (hr hr' : List PeerEvent) (sg sg' : PeerState) → (IsDone gv hr sg → IsDone gv hr' sg') → (x : Item)
+item_more : (gv : List GivenMessage) (hr hr' : List PeerEvent) (sg sg' : PeerState) → (IsDone gv hr sg → IsDone gv hr' sg') → (x : Item)
     → IsTrueOrder gv hr sg x → IsTrueOrder gv hr' sg' x
 item_more gv hr hr' sg sg' done (Orders o) h = says_more gv hr hr' sg sg' done o.content o.channel o.number h
 item_more gv hr hr' sg sg' done (Answers a) h = tt
 
-orders_more : (gv : List Given) (hr hr' : List PeerEvent) (sg sg' : PeerState) → (IsDone gv hr sg → IsDone gv hr' sg') → (ws : List Written)
+orders_more : (gv : List GivenMessage) (hr hr' : List PeerEvent) (sg sg' : PeerState) → (IsDone gv hr sg → IsDone gv hr' sg') → (ws : List Written)
     → Each (OrdersOut gv hr sg) ws → Each (OrdersOut gv hr' sg') ws
 orders_more gv hr hr' sg sg' done ws =
     each_weaker (OrdersOut gv hr sg) (OrdersOut gv hr' sg')
     (λ w h. each_weaker (IsTrueOrder gv hr sg) (IsTrueOrder gv hr' sg') (item_more gv hr hr' sg sg' done) w.items h) ws
 
-held_more : (gv : List Given) (hr hr' : List PeerEvent) (sg sg' : PeerState) → (IsDone gv hr sg → IsDone gv hr' sg') → (os : List Order)
+held_more : (gv : List GivenMessage) (hr hr' : List PeerEvent) (sg sg' : PeerState) → (IsDone gv hr sg → IsDone gv hr' sg') → (os : List Order)
     → Each (IsHeld gv hr sg) os → Each (IsHeld gv hr' sg') os
 held_more gv hr hr' sg sg' done os =
     each_weaker (IsHeld gv hr sg) (IsHeld gv hr' sg') (λ o h. (says_more gv hr hr' sg sg' done o.content o.channel o.number h.0, h.1)) os
 
-done_more : (gv : List Given) (hr hr' : List PeerEvent) (sg : PeerState) → IsFewer hr hr' → IsDone gv hr sg → IsDone gv hr' sg
+done_more : (gv : List GivenMessage) (hr hr' : List PeerEvent) (sg : PeerState) → IsFewer hr hr' → IsDone gv hr sg → IsDone gv hr' sg
 done_more gv hr hr' sg fewer d = record { all = λ c. omega (arith, d.all c, fewer c); over = d.over }
 
 pub answer_more : (hr hr' : List PeerEvent) → IsFewer hr hr' → (a : Answer) → IsTrueAnswer hr a → IsTrueAnswer hr' a
 answer_more hr hr' fewer a h below = let had = h below in (had.0, omega (arith, had.1, fewer a.channel), had.2)
 
 -- the reader hears more, and owes other answers
-pub hears : {gv : List Given} {os : List Order} {sg : PeerState} {hg : List PeerEvent} {wg : List Written} {hr : List PeerEvent} {pr : List Answer}
+pub hears : {gv : List GivenMessage} {os : List Order} {sg : PeerState} {hg : List PeerEvent} {wg : List Written} {hr : List PeerEvent} {pr : List Answer}
     {sr : PeerState} {wr : List Written}
     (hr' : List PeerEvent) (pr' : List Answer) (sr' : PeerState) → Kept gv os sg hg wg hr pr sr wr → IsFewer hr hr'
     → ((c : ℕ) → IsPrefixOf (messages_on c hr') (given_on c gv)) → Each (IsTrueAnswer hr') pr'
@@ -68,7 +69,7 @@ hears {gv = gv} {os = os} {sg = sg} {wg = wg} {hr = hr} {wr = wr} hr' pr' sr' k 
     }
 
 -- the giver holds other commands, is in another state, and hears other events
-pub moves : {gv : List Given} {os : List Order} {sg : PeerState} {hg : List PeerEvent} {wg : List Written} {hr : List PeerEvent} {pr : List Answer}
+pub moves : {gv : List GivenMessage} {os : List Order} {sg : PeerState} {hg : List PeerEvent} {wg : List Written} {hr : List PeerEvent} {pr : List Answer}
     {sr : PeerState} {wr : List Written}
     (os' : List Order) (sg' : PeerState) (hg' : List PeerEvent) → Kept gv os sg hg wg hr pr sr wr → (IsOver sg → IsOver sg')
     → Each (IsHeld gv hr sg') os' → ((c n : ℕ) → 1 ≤ n → n ≤ length (given_on c gv) → (n ≤ count_of c hr) ⊎ Has c n os')
@@ -89,12 +90,12 @@ moves {gv = gv} {sg = sg} {wg = wg} {hr = hr} os' sg' hg' k over held covered cl
       last = k.last;
     }
 
-pub is_held_more : (gv : List Given) (hr : List PeerEvent) (sg sg' : PeerState) → (IsOver sg → IsOver sg') → (os : List Order)
+pub is_held_more : (gv : List GivenMessage) (hr : List PeerEvent) (sg sg' : PeerState) → (IsOver sg → IsOver sg') → (os : List Order)
     → Each (IsHeld gv hr sg) os → Each (IsHeld gv hr sg') os
 is_held_more gv hr sg sg' over os = held_more gv hr hr sg sg' (λ d. record { all = d.all; over = over d.over }) os
 
 -- the giver is in another state and hears an event
-pub turns : {gv : List Given} {os : List Order} {sg : PeerState} {hg : List PeerEvent} {wg : List Written} {hr : List PeerEvent} {pr : List Answer}
+pub turns : {gv : List GivenMessage} {os : List Order} {sg : PeerState} {hg : List PeerEvent} {wg : List Written} {hr : List PeerEvent} {pr : List Answer}
     {sr : PeerState} {wr : List Written}
     (sg' : PeerState) (e : PeerEvent) → Kept gv os sg hg wg hr pr sr wr → (IsOver sg → IsOver sg') → (e ≡ event.Closed → IsDone gv hr sg')
     → Kept gv os sg' (hg ++ e ∷ []) wg hr pr sr wr
@@ -121,19 +122,16 @@ last_push (event.Closed ∷ hr) e quiet h = (tt, last_push hr e quiet h.1)
 last_push (event.Message c n bytes ∷ hr) e quiet h = (tt, last_push hr e quiet h.1)
 last_push (event.Lost c n ∷ hr) e quiet h = (tt, last_push hr e quiet h.1)
 
-contains_tail : (x : PeerEvent) (xs : List PeerEvent) (y : PeerEvent) → Contains xs y → Contains (x ∷ xs) y
-contains_tail x xs y h = (suc h.0, omega (arith, h.1), h.2)
-
 last_message : (hr : List PeerEvent) (c n : ℕ) (bytes : List ℕ) → (Contains hr event.PeerClosed → ⊥) → IsLast hr → IsLast (hr ++ event.Message c n bytes ∷ [])
 last_message [] c n bytes none h = (tt, tt)
 last_message (event.PeerClosed ∷ hr) c n bytes none h = absurd (none (0, omega arith, refl))
-last_message (event.Connected ∷ hr) c n bytes none h = (tt, last_message hr c n bytes (λ has. none (contains_tail _ hr _ has)) h.1)
-last_message (event.Closed ∷ hr) c n bytes none h = (tt, last_message hr c n bytes (λ has. none (contains_tail _ hr _ has)) h.1)
-last_message (event.Message d m other ∷ hr) c n bytes none h = (tt, last_message hr c n bytes (λ has. none (contains_tail _ hr _ has)) h.1)
-last_message (event.Lost d m ∷ hr) c n bytes none h = (tt, last_message hr c n bytes (λ has. none (contains_tail _ hr _ has)) h.1)
+last_message (event.Connected ∷ hr) c n bytes none h = (tt, last_message hr c n bytes (λ has. none (contains_behind _ hr _ has)) h.1)
+last_message (event.Closed ∷ hr) c n bytes none h = (tt, last_message hr c n bytes (λ has. none (contains_behind _ hr _ has)) h.1)
+last_message (event.Message d m other ∷ hr) c n bytes none h = (tt, last_message hr c n bytes (λ has. none (contains_behind _ hr _ has)) h.1)
+last_message (event.Lost d m ∷ hr) c n bytes none h = (tt, last_message hr c n bytes (λ has. none (contains_behind _ hr _ has)) h.1)
 
 -- an event that is no message
-pub hears_other : {gv : List Given} {os : List Order} {sg : PeerState} {hg : List PeerEvent} {wg : List Written} {hr : List PeerEvent} {pr : List Answer}
+pub hears_other : {gv : List GivenMessage} {os : List Order} {sg : PeerState} {hg : List PeerEvent} {wg : List Written} {hr : List PeerEvent} {pr : List Answer}
     {sr : PeerState} {wr : List Written}
     (sr' : PeerState) (e : PeerEvent) → Kept gv os sg hg wg hr pr sr wr → IsNoMessage e → (IsShut sr → IsShut sr')
     → (e ≡ event.PeerClosed → IsDone gv hr sg × IsShut sr')
@@ -151,7 +149,7 @@ hears_other {gv = gv} {sg = sg} {hr = hr} {pr = pr} sr' e k quiet shut now =
     (last_push hr e quiet k.last)
 
 -- one more answer, and a state in which what was over is over
-pub owes : {gv : List Given} {os : List Order} {sg : PeerState} {hg : List PeerEvent} {wg : List Written} {hr : List PeerEvent} {pr : List Answer}
+pub owes : {gv : List GivenMessage} {os : List Order} {sg : PeerState} {hg : List PeerEvent} {wg : List Written} {hr : List PeerEvent} {pr : List Answer}
     {sr : PeerState} {wr : List Written}
     (pr' : List Answer) (sr' : PeerState) → Kept gv os sg hg wg hr pr sr wr → Each (IsTrueAnswer hr) pr' → (IsShut sr → IsShut sr')
     → Kept gv os sg hg wg hr pr' sr' wr
@@ -169,14 +167,15 @@ same_front (x ∷ xs) rest (y ∷ ys) rest' e l =
     let fronts : xs ≡ ys = same_front xs rest ys rest' tails (omega (arith, l)) in
     cc
 
-grown : (known rest given : List (List ℕ)) (n : ℕ) (bytes : List ℕ) → given ≡ known ++ rest → n ≡ length known + 1 → IsAt given n bytes
+pub grown : (known rest given : List (List ℕ)) (n : ℕ) (bytes : List ℕ) → given ≡ known ++ rest → n ≡ length known + 1 → IsAt given n bytes
     → IsPrefixOf (known ++ bytes ∷ []) given
 grown known rest given n bytes e count place =
     let same : known ≡ place.front = same_front known rest place.front (bytes ∷ place.rest) (sym e ∙ place.parts) (omega (arith, place.at, count)) in
     (place.rest, place.parts ∙ ap (λ (w : List (List ℕ)). w ++ bytes ∷ place.rest) (sym same) ∙ sym (append_assoc known (bytes ∷ []) place.rest))
 
 -- the next message of a channel
-pub hears_message : {gv : List Given} {os : List Order} {sg : PeerState} {hg : List PeerEvent} {wg : List Written} {hr : List PeerEvent} {pr : List Answer}
+pub hears_message : {gv : List GivenMessage} {os : List Order} {sg : PeerState} {hg : List PeerEvent} {wg : List Written} {hr : List PeerEvent}
+    {pr : List Answer}
     {sr : PeerState} {wr : List Written}
     (c n : ℕ) (bytes : List ℕ) → Kept gv os sg hg wg hr pr sr wr → (IsShut sr → ⊥) → n ≡ count_of c hr + 1 → IsAt (given_on c gv) n bytes
     → Kept gv os sg hg wg (hr ++ event.Message c n bytes ∷ []) pr sr wr

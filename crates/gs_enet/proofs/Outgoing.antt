@@ -9,18 +9,19 @@ use Rattle.std.proofs.Math.Seq.{drop-append_seam}
 use Rattle.std.proofs.lemmas.Grind.{flat_map-append}
 use Rattle.gs_enet_wire.specs.declared.command.Command.{Command}
 use Rattle.gs_enet_wire.specs.declared.datagram.Datagram.{Datagram}
-use Rattle.gs_enet_wire.specs.Grammar.{command_spelling, all_fields, Fit, fields_bytes, header, spelling, Spells, IsWritable, u16}
-use Rattle.gs_enet_wire.specs.Writing.{Puts, PutsFields}
+use Rattle.gs_enet_wire.specs.Grammar.{command_spelling, all_fields, Fit, fields_bytes, header, spelling, SpellsDatagram, IsWritable, u16}
+use Rattle.gs_enet_wire.specs.Writing.{PutsText, PutsFields}
 use Rattle.gs_enet_wire.proofs.Writers.{puts_then, spelling_again}
 use Rattle.gs_enet.specs.declared.answer.Answer.{Answer}
 use Rattle.gs_enet.specs.declared.peer.Peer.{Peer}
 use Rattle.gs_enet.specs.Record.{PeerRecord, Content, Connect, VerifyConnect, Disconnect, Message, Order, Unacknowledged, is_shut, at_moment}
 use Rattle.gs_enet.specs.Write.{Item, Answers, Orders, item_command, order_command, is_due, due_if, going_out, fitting, next_items, having_written}
-use Rattle.gs_enet.specs.Write.{first_written, wrote_next, datagram_of, datagram_if, next_datagram, address}
-use Rattle.gs_enet.specs.Standing.{StandsFor}
+use Rattle.gs_enet.specs.Write.{first_written, wrote_next, items_datagram, datagram_if, next_datagram, address}
+use Rattle.gs_enet.specs.Standing.{IsPeerOf}
 use Rattle.gs_enet.specs.Items.{IsTooLong, WritesItem, WritesOne}
 use Rattle.gs_enet.specs.Outcomes.{WritesNext, WritesDatagram}
-use Rattle.gs_enet.proofs.Due.{first_written-none, first_written-more, due_after}
+use Rattle.gs_enet.proofs.Due.{first_written-more, due_after}
+use Rattle.gs_enet.proofs.Windows.{first_written-none}
 
 -- ---- one item less
 
@@ -110,9 +111,9 @@ commands_of r items = map (item_command r) items
 pub record HasWritten (r : PeerRecord) (place : ℕ) (p : Peer) (before after : List ℕ) : Type 0 where
   pub items : List Item
   pub some : items ≢ []
-  pub stands : StandsFor p (having_written (length items) r)
+  pub stands : IsPeerOf p (having_written (length items) r)
   pub fits : fitting r 1388 (going_out r) ≡ items ++ fitting r (1392 - place) (drop (length items) (going_out r))
-  pub put : Puts (flat_map command_spelling (commands_of r items)) 4 place before after
+  pub put : PutsText (flat_map command_spelling (commands_of r items)) 4 place before after
   pub fit : AllByRecursion (λ c. Fit (all_fields c)) (commands_of r items)
   pub room : place ≤ 1392
 
@@ -140,7 +141,7 @@ written_first r end p before after w =
       stands = w.stands;
       fits = fits_one r 4 end (going_out r) w.item w.rest w.front w.put.ends w.fits
           ∙ ap (λ (xs : List Item). w.item ∷ fitting r (1392 - end) xs) (drop_first (going_out r) w.item w.rest w.front);
-      put = subst (λ (bytes : List ℕ). Puts bytes 4 end before after) (sym (spelled_first (item_command r w.item))) w.put;
+      put = subst (λ (bytes : List ℕ). PutsText bytes 4 end before after) (sym (spelled_first (item_command r w.item))) w.put;
       fit = (w.fit, tt);
       room = w.fits;
     }
@@ -164,21 +165,21 @@ written_more r place end p q before middle after h w =
     let next : w.rest ≡ drop (suc n) (going_out r) =
     drop_first (drop n (going_out r)) w.item w.rest left ∙ drop-drop 1 n (going_out r)
     ∙ ap (λ (k : ℕ). drop k (going_out r)) (let e : n + 1 ≡ suc n = omega arith in e) in
-    let put : Puts (command_spelling (item_command r w.item)) place end middle after =
-    subst (λ (c : Command). Puts (command_spelling c) place end middle after) same w.put in
+    let put : PutsText (command_spelling (item_command r w.item)) place end middle after =
+    subst (λ (c : Command). PutsText (command_spelling c) place end middle after) same w.put in
     let all : commands_of r (h.items ++ w.item ∷ []) ≡ commands_of r h.items ++ item_command r w.item ∷ [] =
     map-append (item_command r) h.items (w.item ∷ []) in
     record {
       items = h.items ++ w.item ∷ [];
       some = not_nil h.items w.item;
-      stands = subst (StandsFor q) (sym (ap (λ (k : ℕ). having_written k r) size ∙ having_written-more n r)) w.stands;
+      stands = subst (IsPeerOf q) (sym (ap (λ (k : ℕ). having_written k r) size ∙ having_written-more n r)) w.stands;
       fits = h.fits
           ∙ ap (λ (xs : List Item). h.items ++ xs)
           (fits_one r place end (drop n (going_out r)) w.item w.rest left put.ends w.fits
           ∙ ap (λ (xs : List Item). w.item ∷ fitting r (1392 - end) xs) next)
           ∙ sym (append_assoc h.items (w.item ∷ []) (fitting r (1392 - end) (drop (suc n) (going_out r))))
           ∙ ap (λ (k : ℕ). (h.items ++ w.item ∷ []) ++ fitting r (1392 - end) (drop k (going_out r))) (sym size);
-      put = subst (λ (bytes : List ℕ). Puts bytes 4 end before after)
+      put = subst (λ (bytes : List ℕ). PutsText bytes 4 end before after)
           (sym (ap (flat_map command_spelling) all ∙ flat_map-append command_spelling (commands_of r h.items) (item_command r w.item ∷ [])
           ∙ ap (λ (bytes : List ℕ). flat_map command_spelling (commands_of r h.items) ++ bytes) (spelled_first (item_command r w.item))))
           (puts_then h.put put);
@@ -201,7 +202,7 @@ too_long n r place xs most e (inr long) =
 
 pub written_all : (r : PeerRecord) (place : ℕ) (p q : Peer) (before middle after : List ℕ) (h : HasWritten r place p before middle)
     → WritesOne (having_written (length h.items) r) place None q middle after
-    → (next_items r ≡ h.items) × StandsFor q (having_written (length h.items) r) × (after ≡ middle)
+    → (next_items r ≡ h.items) × IsPeerOf q (having_written (length h.items) r) × (after ≡ middle)
 unfolding next_items
 written_all r place p q before middle after h w =
     let n : ℕ = length h.items in (
@@ -225,13 +226,13 @@ wrote_none r now p q before after w =
     let none : going_out t ≡ [] = only_nothing t w.0 in
     let items : next_items t ≡ [] = ap (fitting t 1388) none in (
       none,
-      subst (StandsFor q) (sym (ap (λ (xs : List Item). having_written (length xs) t) items ∙ having_written-zero t)) w.1,
+      subst (IsPeerOf q) (sym (ap (λ (xs : List Item). having_written (length xs) t) items ∙ having_written-zero t)) w.1,
       w.2,
     )
 
 -- ---- a whole datagram
 
-some_datagram : (r : PeerRecord) (xs : List Item) → xs ≢ [] → datagram_if r xs ≡ Some (datagram_of r xs)
+some_datagram : (r : PeerRecord) (xs : List Item) → xs ≢ [] → datagram_if r xs ≡ Some (items_datagram r xs)
 some_datagram r [] some = absurd (some refl)
 some_datagram r (x ∷ xs) some = refl
 
@@ -244,8 +245,8 @@ commands_some r [] some e = some refl
 commands_some r (x ∷ xs) some e = absurd cc
 
 -- a header that is written in front of what was written behind its place
-header_first : (head body : List ℕ) (place end : ℕ) (before middle after : List ℕ) → length head ≡ 4 → 4 ≤ length before → Puts body 4 place before middle
-    → Puts head 0 end middle after → after ≡ (head ++ body) ++ drop place before
+header_first : (head body : List ℕ) (place end : ℕ) (before middle after : List ℕ) → length head ≡ 4 → 4 ≤ length before → PutsText body 4 place before middle
+    → PutsText head 0 end middle after → after ≡ (head ++ body) ++ drop place before
 header_first head body place end before middle after four long puts first =
     let at : end ≡ 4 = omega (arith, first.ends, four) in
     let short : length (take 4 before) ≡ 4 = length-take-le 4 before long in
@@ -268,21 +269,21 @@ unfolding wrote_next
 wrote_datagram r now place end peer sent p q before middle out after h w peer_is sent_is puts long =
     let t : PeerRecord = at_moment now r in
     let all = written_all t place p q before middle out h w in
-    let d : Datagram = datagram_of t h.items in
+    let d : Datagram = items_datagram t h.items in
     let to : address t.other ≡ peer = ap address all.1.other ∙ sym peer_is in
     let time : t.now % 65536 ≡ sent = ap (λ (n : ℕ). n % 65536) all.1.now ∙ sym sent_is in
     let word : peer + 32768 ≡ address t.other + 4096 * 0 + 32768 * 1 = omega (arith, to) in
     let fields : fields_bytes (u16 (peer + 32768) ∷ u16 sent ∷ []) ≡ fields_bytes (header d) =
     ap (λ (n : ℕ). fields_bytes (u16 n ∷ u16 sent ∷ [])) word
     ∙ ap (λ (n : ℕ). fields_bytes (u16 (address t.other + 4096 * 0 + 32768 * 1) ∷ u16 n ∷ [])) (sym time) in
-    let head : Puts (fields_bytes (header d)) 0 end out after = subst (λ (bytes : List ℕ). Puts bytes 0 end out after) fields puts.puts in
-    let head' : Puts (fields_bytes (header d)) 0 end middle after = subst (λ (l : List ℕ). Puts (fields_bytes (header d)) 0 end l after) all.2 head in
+    let head : PutsText (fields_bytes (header d)) 0 end out after = subst (λ (bytes : List ℕ). PutsText bytes 0 end out after) fields puts.puts in
+    let head' : PutsText (fields_bytes (header d)) 0 end middle after = subst (λ (l : List ℕ). PutsText (fields_bytes (header d)) 0 end l after) all.2 head in
     let size : place ≡ length (spelling d) =
     omega (arith, h.put.ends, length-append (fields_bytes (header d)) (flat_map command_spelling (commands_of t h.items))) in
     record {
       datagram = d;
       is_next = ap (datagram_if t) all.0 ∙ some_datagram t h.items h.some;
-      stands = subst (StandsFor q) (sym (ap (λ (xs : List Item). having_written (length xs) t) all.0)) all.1;
+      stands = subst (IsPeerOf q) (sym (ap (λ (xs : List Item). having_written (length xs) t) all.0)) all.1;
       sized = size;
       written = header_first (fields_bytes (header d)) (flat_map command_spelling (commands_of t h.items)) place end before middle after refl
           (omega (arith, long)) h.put head';

@@ -10,19 +10,21 @@ use Rattle.gs_enet.specs.declared.event.PeerEvent.TheVariants as event
 use Rattle.gs_enet.specs.declared.state.PeerState.{PeerState}
 use Rattle.gs_enet.specs.declared.state.PeerState.TheVariants as state
 use Rattle.gs_enet.specs.declared.answer.Answer.{Answer}
-use Rattle.gs_enet.specs.Record.{PeerRecord, Unacknowledged, Content, Connect, VerifyConnect, Disconnect, Message, Order, Given, channels, control, given_on}
-use Rattle.gs_enet.specs.Record.{messages_on, heard, heard_count, orders, shut, happened, owing, at_moment}
+use Rattle.gs_enet.specs.Record.{PeerRecord, Unacknowledged, Content, Connect, VerifyConnect, Disconnect, Message, Order, GivenMessage, channels, control}
+use Rattle.gs_enet.specs.Record.{given_on}
+use Rattle.gs_enet.specs.Record.{messages_on, heard, heard_count, shut, happened, owing, at_moment}
 use Rattle.gs_enet.specs.Receive.{takes_messages, expected, distance, message_if, is_next, is_behind, taken_if, is_connect, verified, verify_if, disconnect_if}
-use Rattle.gs_enet.specs.Receive.{connected, acknowledged, is_named, acknowledged_if, answer_to, received, all_received}
+use Rattle.gs_enet.specs.Receive.{connected, acknowledged, is_named, acknowledged_if, owed_answer, command_received, all_received}
 use Rattle.gs_enet.specs.Steps.{next_number}
 use Rattle.gs_enet.specs.Write.{Item, Answers, Orders, item_command, order_command}
-use Rattle.gs_enet.specs.World.{Written, Side, came, answered, IsNearOrder, IsNearItem, AreNear, IsNear}
+use Rattle.gs_enet.specs.World.{Written, Side, came, answered_number, IsNearOrder, IsNearItem, AreNear, IsNear}
 use Rattle.gs_enet.proofs.Lists.{Each, each_weaker, each_map, each_unmap, each_push, each_filter, each_find}
 use Rattle.gs_enet.proofs.Kept.{Kept, IsDone, IsOver, IsShut, IsAt, Says, IsHeld, Has, HasAnswered, IsTrueAnswer, IsTrueOrder, AnswersTruly, IsFewer, OrdersOut}
 use Rattle.gs_enet.proofs.Kept.{AnswersOut, count_of, messages_on-message}
 use Rattle.gs_enet.proofs.Moves.{moves, turns, hears_message}
 use Rattle.gs_enet.proofs.Giving.{order_of}
-use Rattle.gs_enet.proofs.Acts.{Both, leave_both, event_both, owing_both, shut_both}
+use Rattle.gs_enet.proofs.Acts.{Both, leave_both, event_both, owing_both, shut_both, same_heard}
+use Rattle.gs_enet.proofs.Hearing.{taking_is_not_shut}
 
 -- ---- answers
 
@@ -42,45 +44,31 @@ near_same n e above below d = omega arith
 near_behind : (n e : ℕ) → n ≤ e + 32767 → e ≤ n + 32767 → 32768 ≤ (n % 65536 + 65536 - e % 65536) % 65536 → n < e
 near_behind n e above below d = omega arith
 
-taking_is_not_shut : (s : PeerState) → takes_messages s ≡ true → IsShut s → ⊥
-taking_is_not_shut state.Shut e h = absurd (false≢true e)
-taking_is_not_shut state.Connected e h = h
-taking_is_not_shut state.Closing e h = h
-taking_is_not_shut state.Connecting e h = h
-taking_is_not_shut state.Accepting e h = h
-
-same_hears : (es fs : List PeerEvent) → es ≡ fs → (s : PeerRecord) (ws : List Written) (o : PeerRecord) (wo : List Written)
-    → Kept s.given (orders s) s.state es ws (heard o) o.pending o.state wo × Kept o.given (orders o) o.state (heard o) wo es s.pending s.state ws
-    → Kept s.given (orders s) s.state fs ws (heard o) o.pending o.state wo × Kept o.given (orders o) o.state (heard o) wo fs s.pending s.state ws
-same_hears es fs e s ws o wo k =
-    subst (λ (x : List PeerEvent). Kept s.given (orders s) s.state x ws (heard o) o.pending o.state wo
-    × Kept o.given (orders o) o.state (heard o) wo x s.pending s.state ws) e k
-
 message_both : (next behind : Bool) (c n : ℕ) (bytes : List ℕ) (sent : ℕ) (s : PeerRecord) (ws : List Written) (o : PeerRecord) (wo : List Written)
     → is_next (n % 65536) (expected s c) ≡ next → is_behind (n % 65536) (expected s c) ≡ behind → (IsShut s.state → ⊥) → IsAt (given_on c o.given) n bytes
     → n ≤ expected s c + 32767 → expected s c ≤ n + 32767 → Both s ws o wo
-    → Both (message_if next behind c (expected s c) bytes (answer_to sent c (n % 65536)) s) ws o wo
+    → Both (message_if next behind c (expected s c) bytes (owed_answer sent c (n % 65536)) s) ws o wo
 message_both true behind c n bytes sent s ws o wo is_it b going place above below k =
     let parts = and_parts (distance (n % 65536) (expected s c) == 0) _ is_it in
     let same : n ≡ expected s c = near_same n (expected s c) above below (eqb-true _ 0 parts.0) in
     let e : PeerEvent = event.Message c (expected s c) bytes in
     let told : Both (happened e s) ws o wo =
-    same_hears (heard s ++ e ∷ []) (s.told ++ (s.waiting ++ e ∷ [])) (append_assoc s.told s.waiting (e ∷ [])) s ws o wo (
+    same_heard (heard s ++ e ∷ []) (s.told ++ (s.waiting ++ e ∷ [])) (append_assoc s.told s.waiting (e ∷ [])) s ws o wo (
       turns s.state e k.0 (λ h. h) (λ clash. absurd cc),
       hears_message c (expected s c) bytes k.1 going refl (subst (λ (x : ℕ). IsAt (given_on c o.given) x bytes) same place),
     ) in
     let more : count_of c (heard (happened e s)) ≡ expected s c =
     ap (count_of c) (sym (append_assoc s.told s.waiting (e ∷ []))) ∙ ap length (messages_on-message c (expected s c) bytes (heard s))
     ∙ length-append (messages_on c (heard s)) (bytes ∷ []) in
-    owe_both (answer_to sent c (n % 65536)) (happened e s) ws o wo told (λ _. (n, omega (arith, more, same), refl))
+    owe_both (owed_answer sent c (n % 65536)) (happened e s) ws o wo told (λ _. (n, omega (arith, more, same), refl))
 message_both false true c n bytes sent s ws o wo not_it is_it going place above below k =
     let older : n < expected s c = near_behind n (expected s c) above below (leb-true 32768 _ is_it) in
-    owe_both (answer_to sent c (n % 65536)) s ws o wo k (λ _. (n, omega (arith, older), refl))
+    owe_both (owed_answer sent c (n % 65536)) s ws o wo k (λ _. (n, omega (arith, older), refl))
 message_both false false c n bytes sent s ws o wo not_it not_behind going place above below k = k
 
 taken_both : (b : Bool) (c n : ℕ) (bytes : List ℕ) (sent : ℕ) (s : PeerRecord) (ws : List Written) (o : PeerRecord) (wo : List Written)
     → (nat_lt c channels && takes_messages s.state) ≡ b → IsAt (given_on c o.given) n bytes → n ≤ expected s c + 32767 → expected s c ≤ n + 32767
-    → Both s ws o wo → Both (taken_if b c (n % 65536) bytes (answer_to sent c (n % 65536)) s) ws o wo
+    → Both s ws o wo → Both (taken_if b c (n % 65536) bytes (owed_answer sent c (n % 65536)) s) ws o wo
 taken_both false c n bytes sent s ws o wo e place above below k = k
 taken_both true c n bytes sent s ws o wo e place above below k =
     message_both (is_next (n % 65536) (expected s c)) (is_behind (n % 65536) (expected s c)) c n bytes sent s ws o wo refl refl
@@ -100,7 +88,7 @@ has_kept test Q c n (u ∷ us) h has = here (test u) refl (λ later. has_kept te
   here false e go (inl first) = inl (h.0 e first.0 first.1)
   here false e go (inr later) = go later
 
-connect_is_control : (gv : List Given) (hr : List PeerEvent) (sg : PeerState) (o : Order) → not (is_connect o) ≡ false
+connect_is_control : (gv : List GivenMessage) (hr : List PeerEvent) (sg : PeerState) (o : Order) → not (is_connect o) ≡ false
     → Says gv hr sg o.content o.channel o.number → o.channel ≡ control
 connect_is_control gv hr sg o e says = here o.content o.channel o.number (ap (λ x. x) e) says where
   here : (content : Content) (c n : ℕ) → not (is_connect (record { content = content; channel = c; number = n })) ≡ false → Says gv hr sg content c n
@@ -110,7 +98,7 @@ connect_is_control gv hr sg o e says = here o.content o.channel o.number (ap (λ
   here Disconnect c n e says = says.0
   here (Message bytes) c n e says = absurd (false≢true (sym e))
 
-given_below : {gv : List Given} {os : List Order} {sg : PeerState} {hg : List PeerEvent} {wg : List Written} {hr : List PeerEvent} {pr : List Answer}
+given_below : {gv : List GivenMessage} {os : List Order} {sg : PeerState} {hg : List PeerEvent} {wg : List Written} {hr : List PeerEvent} {pr : List Answer}
     {sr : PeerState} {wr : List Written}
     (c n : ℕ) → Kept gv os sg hg wg hr pr sr wr → 1 ≤ n → n ≤ length (given_on c gv) → c < channels
 given_below {gv = gv} c n k least most = elim (cases_lt c channels) [
@@ -191,22 +179,23 @@ acknowledged_both Disconnect c n s ws o wo says k =
     shut_both event.Closed s ws o wo k tt (λ _. record { all = says.1.all; over = tt }) (λ clash. absurd cc)
 
 -- of the last 256 numbers only one has these 16 bits, and it was heard of
-was_heard : (n size count number next : ℕ) → n ≤ size → size < n + 256 → count ≤ size → HasAnswered count number → size + 1 ≤ answered count number + 32767
+was_heard : (n size count number next : ℕ) → n ≤ size → size < n + 256 → count ≤ size → HasAnswered count number
+    → size + 1 ≤ answered_number count number + 32767
     → n % 65536 ≡ number
     → n ≤ count
 was_heard n size count number next most window few had near same =
     let m : ℕ = had.0 in
     let small : m ≤ count = had.1 in
     let low : m % 65536 ≡ number = had.2 in
-    was n size count m most window few small (subst (λ (x : ℕ). size + 1 ≤ answered count x + 32767) (sym low) near) (same ∙ sym low) where
-      was : (n size count m : ℕ) → n ≤ size → size < n + 256 → count ≤ size → m ≤ count → size + 1 ≤ answered count (m % 65536) + 32767
+    was n size count m most window few small (subst (λ (x : ℕ). size + 1 ≤ answered_number count x + 32767) (sym low) near) (same ∙ sym low) where
+      was : (n size count m : ℕ) → n ≤ size → size < n + 256 → count ≤ size → m ≤ count → size + 1 ≤ answered_number count (m % 65536) + 32767
           → n % 65536 ≡ m % 65536 → n ≤ count
       was n size count m most window few small near same = omega arith
 
 acknowledge_both : (found : Option Unacknowledged) (c number : ℕ) (by s : PeerRecord) (ws : List Written) (o : PeerRecord) (wo : List Written)
     → find (is_named c number) s.unacknowledged ≡ found
     → IsFewer (heard by) (heard o) → (c < channels → HasAnswered (count_of c (heard by)) number)
-    → (c < channels → next_number s c ≤ answered (heard_count by c) number + 32767)
+    → (c < channels → next_number s c ≤ answered_number (heard_count by c) number + 32767)
     → Both s ws o wo → Both (acknowledged_if found c number s) ws o wo
 acknowledge_both None c number by s ws o wo e fewer honest near k = k
 acknowledge_both (Some u) c number by s ws o wo e fewer honest near k =
@@ -249,8 +238,8 @@ acknowledge_both (Some u) c number by s ws o wo e fewer honest near k =
         omega (arith, fewer d, ap length (k.0.in_order d).1, length-append (messages_on d (heard o)) (k.0.in_order d).0) in
         let had : HasAnswered (count_of d (heard by)) number = subst (λ (x : ℕ). HasAnswered (count_of x (heard by)) number) c_is
         (honest (omega (arith, c_is, below))) in
-        let close : length (given_on d s.given) + 1 ≤ answered (count_of d (heard by)) number + 32767 =
-        subst (λ (x : ℕ). next_number s x ≤ answered (heard_count by x) number + 32767) c_is (near (omega (arith, c_is, below))) in
+        let close : length (given_on d s.given) + 1 ≤ answered_number (count_of d (heard by)) number + 32767 =
+        subst (λ (x : ℕ). next_number s x ≤ answered_number (heard_count by x) number + 32767) c_is (near (omega (arith, c_is, below))) in
         let known : n ≤ count_of d (heard by) =
         was_heard n (length (given_on d s.given)) (count_of d (heard by)) number 0 most window few had close
         (subst (λ (x : ℕ). x % 65536 ≡ number) same_n low) in
@@ -259,20 +248,21 @@ acknowledge_both (Some u) c number by s ws o wo e fewer honest near k =
 -- ---- an item of a datagram that the other side wrote
 
 order_both : (content : Content) (c n sent : ℕ) (by s : PeerRecord) (ws : List Written) (o : PeerRecord) (wo : List Written)
-    → Says o.given (heard s) o.state content c n → IsNearOrder s content c n → Both s ws o wo → Both (received sent (order_command content c n by) s) ws o wo
-unfolding received
+    → Says o.given (heard s) o.state content c n → IsNearOrder s content c n → Both s ws o wo
+    → Both (command_received sent (order_command content c n by) s) ws o wo
+unfolding command_received
 order_both Connect c n sent by s ws o wo says near k = k
 order_both VerifyConnect c n sent by s ws o wo says near k =
-    verify_if_both (is_some s.extra && (by.connect_id == s.connect_id)) by.own (answer_to sent control (n % 65536)) s ws o wo refl k
+    verify_if_both (is_some s.extra && (by.connect_id == s.connect_id)) by.own (owed_answer sent control (n % 65536)) s ws o wo refl k
 order_both Disconnect c n sent by s ws o wo says near k =
-    disconnect_both s.disconnected (record (answer_to sent control (n % 65536)) { to_disconnect = true }) s ws o wo refl says.1 k
+    disconnect_both s.disconnected (record (owed_answer sent control (n % 65536)) { to_disconnect = true }) s ws o wo refl says.1 k
 order_both (Message bytes) c n sent by s ws o wo says near k =
     taken_both (nat_lt c channels && takes_messages s.state) c n bytes sent s ws o wo refl says.1 near.0 near.1 k
 
 item_both : (x : Item) (sent : ℕ) (by s : PeerRecord) (ws : List Written) (o : PeerRecord) (wo : List Written)
     → IsTrueOrder o.given (heard s) o.state x → AnswersTruly (heard by) x → IsFewer (heard by) (heard o) → IsNearItem by s x
-    → Both s ws o wo → Both (received sent (item_command by x) s) ws o wo
-unfolding received
+    → Both s ws o wo → Both (command_received sent (item_command by x) s) ws o wo
+unfolding command_received
 item_both (Answers a) sent by s ws o wo says honest fewer near k =
     acknowledge_both (find (is_named a.channel a.number) s.unacknowledged) a.channel a.number by s ws o wo refl fewer honest near k
 item_both (Orders r) sent by s ws o wo says honest fewer near k = order_both r.content r.channel r.number sent by s ws o wo says near k
@@ -294,12 +284,12 @@ items_both front [] which w s ws o wo at parts near k = k
 items_both front (x ∷ xs) which w s ws o wo at parts near k =
     let orders_true : Each (IsTrueOrder o.given (heard s) o.state) w.items = each_at (OrdersOut o.given (heard s) o.state) wo which w k.1.orders_out at in
     let answers_true = each_at (AnswersOut (heard o)) wo which w k.0.answers_out at in
-    let here : Both (received (w.by.now % 65536) (item_command w.by x) s) ws o wo =
+    let here : Both (command_received (w.by.now % 65536) (item_command w.by x) s) ws o wo =
     item_both x (w.by.now % 65536) w.by s ws o wo
     (each_middle (IsTrueOrder o.given (heard s) o.state) front x xs (subst (Each (IsTrueOrder o.given (heard s) o.state)) parts orders_true))
     (each_middle (AnswersTruly (heard w.by)) front x xs (subst (Each (AnswersTruly (heard w.by))) parts answers_true.1))
     answers_true.0 near.0 k in
-    items_both (front ++ x ∷ []) xs which w (received (w.by.now % 65536) (item_command w.by x) s) ws o wo at
+    items_both (front ++ x ∷ []) xs which w (command_received (w.by.now % 65536) (item_command w.by x) s) ws o wo at
     (parts ∙ sym (append_assoc front (x ∷ []) xs)) near.1 here
 
 came_if : (found : Option Written) (which now : ℕ) (s o : Side) → slice_get o.wrote which ≡ found → IsNear found now s.peer

@@ -3,11 +3,12 @@ use Rattle.std.proofs.Common.{◌≡◌, ◌≤◌, ◌+◌, ◌-◌, ℕ, zero,
 use Rattle.std.proofs.lemmas.List.{length-drop}
 use Rattle.gs_enet_wire.specs.declared.datagram.Datagram.{Datagram}
 use Rattle.gs_enet.specs.Record.{PeerRecord, at_moment}
-use Rattle.gs_enet.specs.Write.{Item, going_out, fitting, next_items, wrote_next, datagram_of, datagram_if, next_datagram, before_rest, written_within, written}
+use Rattle.gs_enet.specs.Write.{Item, going_out, fitting, next_items, wrote_next, items_datagram, datagram_if, next_datagram, before_rest, written_within}
+use Rattle.gs_enet.specs.Write.{written}
 use Rattle.gs_enet.specs.WrittenLaw.{WrittenByRepeating}
 use Rattle.gs_enet.proofs.Outgoing.{going_out-less}
 
-left_after : (now : ℕ) (r : PeerRecord)
+pub left_after : (now : ℕ) (r : PeerRecord)
     → length (going_out (wrote_next now r)) ≡ length (going_out r) - length (next_items (at_moment now r))
 unfolding wrote_next
 left_after now r =
@@ -39,7 +40,7 @@ enough (suc f) (suc g) now r few few' = step (next_items (at_moment now r)) (lef
       ≡ before_rest (datagram_if (at_moment now r) items) (written_within g now (wrote_next now r))
   step [] less go = refl
   step (x ∷ xs) less go =
-      ap (λ (ds : List Datagram). datagram_of (at_moment now r) (x ∷ xs) ∷ ds) (go (omega (arith, less, few)) (omega (arith, less, few')))
+      ap (λ (ds : List Datagram). items_datagram (at_moment now r) (x ∷ xs) ∷ ds) (go (omega (arith, less, few)) (omega (arith, less, few')))
 
 pub repeating : WrittenByRepeating
 repeating r now =

@@ -1,11 +1,12 @@
 -- Messages of one channel with their numbers, in the order of writing.
-use Rattle.std.proofs.Common.{◌≡◌, ◌<◌, ◌≤◌, ◌+◌, ◌-◌, ◌%◌, ℕ, Bool, true, false, not, cond, List, [], ◌∷◌, ◌++◌, length, refl, ap, subst, ◌∙◌, arith}
+use Rattle.std.proofs.Common.{◌≡◌, ◌<◌, ◌≤◌, ◌+◌, ◌-◌, ◌%◌, ℕ, Bool, true, false, not, cond, List, [], ◌∷◌, ◌++◌, length, refl, ap, subst, arith}
 use Rattle.std.specs.Prelude.{◌==◌}
 use Rattle.std.specs.List.{filter}
 use Rattle.std.proofs.lemmas.Bool.{eqb-true}
-use Rattle.std.proofs.lemmas.List.{append_assoc, length-append}
+use Rattle.std.proofs.lemmas.List.{length-append}
 use Rattle.gs_enet.proofs.Lists.{Each}
 use Rattle.gs_enet.proofs.Kept.{IsAt}
+use Rattle.gs_enet.proofs.Giving.{at_more}
 
 pub record Numbered : Type 0 where
   pub number : ℕ
@@ -21,15 +22,6 @@ Rising ms low (x ∷ xs) = (low < x.number) × IsAt ms x.number x.bytes × Risin
 
 pub at_below : (ms : List (List ℕ)) (n : ℕ) (bytes : List ℕ) → IsAt ms n bytes → n ≤ length ms
 at_below ms n bytes h = omega (arith, h.at, ap length h.parts, length-append h.front (bytes ∷ h.rest))
-
-at_pushed : (ms : List (List ℕ)) (n : ℕ) (x y : List ℕ) → IsAt ms n x → IsAt (ms ++ y ∷ []) n x
-at_pushed ms n x y h =
-    record {
-      front = h.front;
-      rest = h.rest ++ y ∷ [];
-      parts = ap (λ (w : List (List ℕ)). w ++ y ∷ []) h.parts ∙ append_assoc h.front (x ∷ h.rest) (y ∷ []);
-      at = h.at;
-    }
 
 pub rising_lower : (ms : List (List ℕ)) (low low' : ℕ) (xs : List Numbered) → low' ≤ low → Rising ms low xs → Rising ms low' xs
 rising_lower ms low low' [] le h = tt
@@ -55,13 +47,13 @@ rising_after ms low (x ∷ xs) ys zs f h = (h.0, h.1, rising_after ms x.number x
 
 pub rising_given : (ms : List (List ℕ)) (low : ℕ) (xs : List Numbered) (bytes : List ℕ) → Rising ms low xs → Rising (ms ++ bytes ∷ []) low xs
 rising_given ms low [] bytes h = tt
-rising_given ms low (x ∷ xs) bytes h = (h.0, at_pushed ms x.number x.bytes bytes h.1, rising_given ms x.number xs bytes h.2)
+rising_given ms low (x ∷ xs) bytes h = (h.0, at_more ms x.number x.bytes bytes h.1, rising_given ms x.number xs bytes h.2)
 
 pub rising_push : (ms : List (List ℕ)) (low : ℕ) (xs : List Numbered) (bytes : List ℕ) → low ≤ length ms → Rising ms low xs
     → Rising (ms ++ bytes ∷ []) low (xs ++ numbered (length ms + 1) bytes)
 rising_push ms low [] bytes le h = (omega (arith, le), record { front = ms; rest = []; parts = refl; at = refl }, tt)
 rising_push ms low (x ∷ xs) bytes le h =
-    (h.0, at_pushed ms x.number x.bytes bytes h.1, rising_push ms x.number xs bytes (at_below ms x.number x.bytes h.1) h.2)
+    (h.0, at_more ms x.number x.bytes bytes h.1, rising_push ms x.number xs bytes (at_below ms x.number x.bytes h.1) h.2)
 
 pub none_of_none : (low : ℕ) (xs : List Numbered) → Rising [] low xs → xs ≡ []
 none_of_none low [] h = refl

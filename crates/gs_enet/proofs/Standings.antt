@@ -23,12 +23,12 @@ use Rattle.gs_enet.specs.Receive.{leave_if, leaving, is_named, acknowledged, ack
 use Rattle.gs_enet.specs.Receive.{takes_messages, expected, distance, is_behind, message_if, taken_if, message_came, is_connect_content, is_connect, verify_if}
 use Rattle.gs_enet.specs.Receive.{verified, verify_came}
 use Rattle.gs_enet.specs.Steps.{next_number, is_full, is_open, with_message, close_if, closed, placed, first_event, next_event, telling, timed_if, timed_at}
-use Rattle.gs_enet.specs.Steps.{name_of, is_lost, due_again}
+use Rattle.gs_enet.specs.Steps.{name_of, had_last_wait, due_again}
 use Rattle.gs_enet.specs.Window.{unacknowledged, in_window, front_is_held}
 use Rattle.gs_enet.specs.Channels.{next_of, channel_held, all_held, is_channel_full, AreEmpty, GivesOne, SameHeld, MarksDue, DropsNamed}
 use Rattle.gs_enet.specs.Controls.{content_of, unacknowledged_control, control_held, is_closing, is_accepting}
 use Rattle.gs_enet.specs.Events.{IsQuiet}
-use Rattle.gs_enet.specs.Standing.{HasCounts, StandsFor, held_by}
+use Rattle.gs_enet.specs.Standing.{HasCounts, IsPeerOf, held_by}
 use Rattle.gs_enet.specs.declared.peer.Peer.{Peer}
 use Rattle.gs_enet.proofs.Lists.{Each, each_weaker, each_append, each_find}
 use Rattle.gs_enet.proofs.Kept.{IsNoMessage, messages_on-other, messages_on-message, messages_on-apart, giving, given_on-own, given_on-apart}
@@ -298,7 +298,7 @@ none_from None e = refl
 none_from (Some x) e = absurd (false≢true (sym e))
 
 -- what a peer's channel says of its record
-pub channel_is_full : (p : Peer) (r : PeerRecord) (c place : ℕ) (ch : Channel) → StandsFor p r → c < 48 → place ≡ c → ch ≡ get_or p.channels.items place ch
+pub channel_is_full : (p : Peer) (r : PeerRecord) (c place : ℕ) (ch : Channel) → IsPeerOf p r → c < 48 → place ≡ c → ch ≡ get_or p.channels.items place ch
     → is_full r c ≡ is_channel_full ch
 channel_is_full p r c place ch s below at read =
     let chs = p.channels.items in
@@ -319,7 +319,7 @@ pub sizes : (p : Peer) → length p.channels.items ≡ 48
 sizes p = let all = p.all in let ok = p.channels.ok.0 in omega (arith, all, ok)
 
 -- the channel that is given a message
-pub sends_one : (p : Peer) (r : PeerRecord) (c place : ℕ) (bytes : List ℕ) (first old new : Channel) → StandsFor p r → c < 48 → place ≡ c
+pub sends_one : (p : Peer) (r : PeerRecord) (c place : ℕ) (bytes : List ℕ) (first old new : Channel) → IsPeerOf p r → c < 48 → place ≡ c
     → first ≡ get_or p.channels.items place first
     → old ≡ get_or p.channels.items place old → GivesOne bytes old new
     → (next_of first ≡ next_number r c) × HasCounts (with_message c bytes r) (set p.channels.items place new)
@@ -343,7 +343,7 @@ sends_one p r c place bytes first old new s below at read was gives =
           ∙ ap (λ (k : ℕ). channel_held place (get_or chs place old) ++ fresh (Message bytes) k (next_number r c) ∷ []) at),
     )
 
-pub sends_none : (p : Peer) (r : PeerRecord) (c place : ℕ) (old new : Channel) → StandsFor p r → c < 48 → place ≡ c → old ≡ get_or p.channels.items place old
+pub sends_none : (p : Peer) (r : PeerRecord) (c place : ℕ) (old new : Channel) → IsPeerOf p r → c < 48 → place ≡ c → old ≡ get_or p.channels.items place old
     → SameHeld old new
     → HasCounts r (set p.channels.items place new) × (r.unacknowledged ≡ control_held p.control ++ all_held 0 (set p.channels.items place new))
 sends_none p r c place old new s below at was same =

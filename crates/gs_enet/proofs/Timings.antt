@@ -23,12 +23,12 @@ use Rattle.gs_enet.specs.Receive.{leave_if, leaving, is_named, acknowledged, ack
 use Rattle.gs_enet.specs.Receive.{takes_messages, expected, distance, is_behind, message_if, taken_if, message_came, is_connect_content, is_connect, verify_if}
 use Rattle.gs_enet.specs.Receive.{verified, verify_came}
 use Rattle.gs_enet.specs.Steps.{next_number, is_full, is_open, with_message, close_if, closed, placed, first_event, next_event, telling, timed_if, timed_at}
-use Rattle.gs_enet.specs.Steps.{name_of, is_lost, due_again}
+use Rattle.gs_enet.specs.Steps.{name_of, had_last_wait, due_again}
 use Rattle.gs_enet.specs.Window.{unacknowledged, in_window, front_is_held}
 use Rattle.gs_enet.specs.Channels.{next_of, channel_held, all_held, is_channel_full, AreEmpty, GivesOne, SameHeld, MarksDue, DropsNamed}
 use Rattle.gs_enet.specs.Controls.{content_of, unacknowledged_control, control_held, is_closing, is_accepting}
 use Rattle.gs_enet.specs.Events.{IsQuiet}
-use Rattle.gs_enet.specs.Standing.{HasCounts, StandsFor, held_by}
+use Rattle.gs_enet.specs.Standing.{HasCounts, IsPeerOf, held_by}
 use Rattle.gs_enet.specs.declared.peer.Peer.{Peer}
 use Rattle.gs_enet.proofs.Lists.{Each, each_weaker, each_append, each_find}
 use Rattle.gs_enet.proofs.Kept.{IsNoMessage, messages_on-other, messages_on-message, messages_on-apart, giving, given_on-own, given_on-apart}
@@ -45,19 +45,20 @@ timed_lost_if (Some u) r c n e =
     let names : name_of u ≡ (c, n) = cc in
     ap (λ (x : ℕ × ℕ). shut (happened (event.Lost x.0 x.1) r)) names
 
-pub timed-lost : (r : PeerRecord) (c n : ℕ) → is_shut r.state ≡ false → option_map name_of (find (is_lost r.now) r.unacknowledged) ≡ Some (c, n)
+pub timed-lost : (r : PeerRecord) (c n : ℕ) → is_shut r.state ≡ false → option_map name_of (find (had_last_wait r.now) r.unacknowledged) ≡ Some (c, n)
     → timed_at r ≡ shut (happened (event.Lost c n) r)
-timed-lost r c n up e = ap (λ (b : Bool). timed_if b (find (is_lost r.now) r.unacknowledged) r) up
-    ∙ timed_lost_if (find (is_lost r.now) r.unacknowledged) r c n e
+timed-lost r c n up e = ap (λ (b : Bool). timed_if b (find (had_last_wait r.now) r.unacknowledged) r) up
+    ∙ timed_lost_if (find (had_last_wait r.now) r.unacknowledged) r c n e
 
 timed_none_if : (lost : Option Unacknowledged) (r : PeerRecord) → option_map name_of lost ≡ None
     → timed_if false lost r ≡ record r { unacknowledged = map (due_again r.now) r.unacknowledged }
 timed_none_if None r e = refl
 timed_none_if (Some u) r e = absurd cc
 
-pub timed-none : (r : PeerRecord) → is_shut r.state ≡ false → option_map name_of (find (is_lost r.now) r.unacknowledged) ≡ None
+pub timed-none : (r : PeerRecord) → is_shut r.state ≡ false → option_map name_of (find (had_last_wait r.now) r.unacknowledged) ≡ None
     → timed_at r ≡ record r { unacknowledged = map (due_again r.now) r.unacknowledged }
-timed-none r up e = ap (λ (b : Bool). timed_if b (find (is_lost r.now) r.unacknowledged) r) up ∙ timed_none_if (find (is_lost r.now) r.unacknowledged) r e
+timed-none r up e =
+    ap (λ (b : Bool). timed_if b (find (had_last_wait r.now) r.unacknowledged) r) up ∙ timed_none_if (find (had_last_wait r.now) r.unacknowledged) r e
 
 -- an event that is no message doesn't count
 pub counts_event : (r : PeerRecord) (e : PeerEvent) (chs : List Channel) → IsNoMessage e → HasCounts r chs → HasCounts (happened e r) chs
@@ -73,11 +74,11 @@ counts_marked r now xs ys h counts c d lt =
     let had = counts c d (omega (arith, lt, length_all_zip (MarksDue now) xs ys h)) in
     (same.next ∙ had.0, same.heard ∙ had.1)
 
-pub lost_of : (p : Peer) (r : PeerRecord) → StandsFor p r → option_map name_of (find (is_lost r.now) r.unacknowledged)
-    ≡ option_map name_of (find (is_lost p.moment) (held_by p))
+pub lost_of : (p : Peer) (r : PeerRecord) → IsPeerOf p r → option_map name_of (find (had_last_wait r.now) r.unacknowledged)
+    ≡ option_map name_of (find (had_last_wait p.moment) (held_by p))
 lost_of p r s =
-    ap (λ (n : ℕ). option_map name_of (find (is_lost n) r.unacknowledged)) s.now
-    ∙ ap (λ (us : List Unacknowledged). option_map name_of (find (is_lost p.moment) us)) s.unacknowledged
+    ap (λ (n : ℕ). option_map name_of (find (had_last_wait n) r.unacknowledged)) s.now
+    ∙ ap (λ (us : List Unacknowledged). option_map name_of (find (had_last_wait p.moment) us)) s.unacknowledged
 
 quiet_is_no_message : (e : PeerEvent) → IsQuiet e → IsNoMessage e
 quiet_is_no_message (event.Message c n bytes) h = h

@@ -6,11 +6,13 @@ use Rattle.std.proofs.lemmas.List.Elements.{Contains-append_left}
 use Rattle.gs_enet.specs.declared.event.PeerEvent.{PeerEvent}
 use Rattle.gs_enet.specs.declared.event.PeerEvent.TheVariants as event
 use Rattle.gs_enet.specs.Record.{PeerRecord, given_on, messages_on, told, heard}
-use Rattle.gs_enet.specs.World.{World, Side, Event, Left, Right, ToLeft, ToRight, Opening, Client, Host, opened_by, start, happens, run, IsNearEvent, AllNear}
+use Rattle.gs_enet.specs.World.{World, Side, WorldEvent, Left, Right, ToLeft, ToRight, WorldOpening, Client, Host, opened_by, world_start, happens, run}
+use Rattle.gs_enet.specs.World.{IsNearEvent, AllNear}
 use Rattle.gs_enet.specs.Laws.{AreInOrder, MessagesInOrder}
 use Rattle.gs_enet.proofs.Kept.{IsLast, messages_on-append}
 use Rattle.gs_enet.proofs.Acts.{Gives, Both, act_both}
 use Rattle.gs_enet.proofs.Receipt.{came_both}
+use Rattle.gs_enet.specs.World.{Written}
 
 abbrev Holds : World → Type 0
 Holds w = Both w.left.peer w.left.wrote w.right.peer w.right.wrote
@@ -18,19 +20,19 @@ Holds w = Both w.left.peer w.left.wrote w.right.peer w.right.wrote
 swapped : (a b : Side) → Both a.peer a.wrote b.peer b.wrote → Both b.peer b.wrote a.peer a.wrote
 swapped a b k = (k.1, k.0)
 
-happens_holds : (e : Event) (w : World) → IsNearEvent e w → Holds w → Holds (happens e w)
+happens_holds : (e : WorldEvent) (w : World) → IsNearEvent e w → Holds w → Holds (happens e w)
 happens_holds (Left act) w near k = act_both act w.left w.right k
 happens_holds (Right act) w near k = (let other = act_both act w.right w.left (k.1, k.0) in (other.1, other.0))
 happens_holds (ToLeft which now) w near k = came_both which now w.left w.right near k
 happens_holds (ToRight which now) w near k = (let other = came_both which now w.right w.left near (k.1, k.0) in (other.1, other.0))
 
-run_holds : (es : List Event) (w : World) → AllNear es w → Holds w → Holds (run es w)
+run_holds : (es : List WorldEvent) (w : World) → AllNear es w → Holds w → Holds (run es w)
 run_holds [] w near k = k
 run_holds (e ∷ es) w near k = run_holds es (happens e w) near.1 (happens_holds e w near.0 k)
 
 -- ---- new sides
 
-start_holds : (l r : Opening) → Gives (opened_by l) [] (opened_by r) []
+start_holds : (l r : WorldOpening) → Gives (opened_by l) [] (opened_by r) []
 start_holds (Client own connect_id extra now) (Client own' connect_id' extra' now') =
     record {
       in_order = λ c. ([], refl);
@@ -107,7 +109,7 @@ none_waits (event.Message d n bytes ∷ es) fs h (suc k, lt, e) c = none_waits e
 none_waits (event.Lost d n ∷ es) fs h (zero, lt, e) c = absurd cc
 none_waits (event.Lost d n ∷ es) fs h (suc k, lt, e) c = none_waits es fs h.1 (k, omega (arith, lt), e) c
 
-in_order_from : (g : PeerRecord) (r : PeerRecord) {wg wr : List _} → Gives g wg r wr → AreInOrder g r
+pub in_order_from : (g : PeerRecord) (r : PeerRecord) {wg wr : List Written} → Gives g wg r wr → AreInOrder g r
 in_order_from g r k =
     record {
       prefix = λ c. (
@@ -126,7 +128,7 @@ in_order_from g r k =
 
 pub messages_in_order_lem : MessagesInOrder
 messages_in_order_lem left right events near =
-    let k = run_holds events (start left right) near (start_holds left right, start_holds right left) in (
-      in_order_from (run events (start left right)).left.peer (run events (start left right)).right.peer k.0,
-      in_order_from (run events (start left right)).right.peer (run events (start left right)).left.peer k.1,
+    let k = run_holds events (world_start left right) near (start_holds left right, start_holds right left) in (
+      in_order_from (run events (world_start left right)).left.peer (run events (world_start left right)).right.peer k.0,
+      in_order_from (run events (world_start left right)).right.peer (run events (world_start left right)).left.peer k.1,
     )

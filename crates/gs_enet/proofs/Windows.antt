@@ -15,9 +15,9 @@ use Rattle.std.specs.List.{list_any, AllZip, find, filter, position_or_len}
 use Rattle.gs_enet.specs.declared.held.Held.{Held}
 use Rattle.gs_enet.specs.Record.{Unacknowledged, Message, fresh}
 use Rattle.gs_enet.specs.Receive.{is_named}
-use Rattle.gs_enet.specs.Steps.{is_lost, due_again}
+use Rattle.gs_enet.specs.Steps.{had_last_wait, due_again}
 use Rattle.gs_enet.specs.Write.{is_due, written_once, first_written}
-use Rattle.gs_enet.specs.Window.{unacknowledged, in_window, passes, held_lost, held_due, Marks, Rewrites}
+use Rattle.gs_enet.specs.Window.{unacknowledged, in_window, passes, held_lost, held_due, IsMarkedDue, Rewrites}
 
 pub in_window-append : (c n : ℕ) (xs ys : List (Option Held)) → in_window c n (xs ++ ys) ≡ in_window c n xs ++ in_window c (n + length xs) ys
 in_window-append c n [] ys = ap (λ (m : ℕ). in_window c m ys) (omega arith)
@@ -106,26 +106,27 @@ none_passes held xs e = list_any_none (passes held) xs (λ k d lt. fails_before_
       past false is same = ltb-false (position_or_len (passes held) xs) (length xs) is
 
 pub lost_at : (now c n : ℕ) (xs : List (Option Held)) (i : ℕ) → position (passes (held_lost now)) xs ≡ Some i
-    → option_map (λ (u : Unacknowledged). u.order.number) (find (is_lost now) (in_window c n xs)) ≡ Some (n + i)
+    → option_map (λ (u : Unacknowledged). u.order.number) (find (had_last_wait now) (in_window c n xs)) ≡ Some (n + i)
 lost_at now c n xs i e =
     let first = position-Some (passes (held_lost now)) xs i None e in
-    find_first (is_lost now) (held_lost now) (λ c n h. refl) c n xs i first.1 first.2
+    find_first (had_last_wait now) (held_lost now) (λ c n h. refl) c n xs i first.1 first.2
 
 pub lost_nowhere : (now c n : ℕ) (xs : List (Option Held)) → position (passes (held_lost now)) xs ≡ None
-    → option_map (λ (u : Unacknowledged). u.order.number) (find (is_lost now) (in_window c n xs)) ≡ None
+    → option_map (λ (u : Unacknowledged). u.order.number) (find (had_last_wait now) (in_window c n xs)) ≡ None
 lost_nowhere now c n xs e =
-    ap (option_map (λ (u : Unacknowledged). u.order.number)) (find_none (is_lost now) (held_lost now) (λ c n h. refl) c n xs (none_passes (held_lost now) xs e))
+    ap (option_map (λ (u : Unacknowledged). u.order.number))
+    (find_none (had_last_wait now) (held_lost now) (λ c n h. refl) c n xs (none_passes (held_lost now) xs e))
 
 pub none_is_lost : (now c n : ℕ) (xs : List (Option Held))
-    → option_map (λ (u : Unacknowledged). u.order.number) (find (is_lost now) (in_window c n xs)) ≡ None → list_any (passes (held_lost now)) xs ≡ false
-none_is_lost now c n xs e = none_found (is_lost now) (held_lost now) (λ c n h. refl) c n xs e
+    → option_map (λ (u : Unacknowledged). u.order.number) (find (had_last_wait now) (in_window c n xs)) ≡ None → list_any (passes (held_lost now)) xs ≡ false
+none_is_lost now c n xs e = none_found (had_last_wait now) (held_lost now) (λ c n h. refl) c n xs e
 
 -- ---- marks and writings
 
 abbrev numbered : ℕ → ℕ → Unacknowledged → Unacknowledged
 numbered c n u = record u { order = record { content = u.order.content; channel = c; number = n } }
 
-pub in_window-marks : (now c n : ℕ) (xs ys : List (Option Held)) → AllZip (Marks now) xs ys → in_window c n ys ≡ map (due_again now) (in_window c n xs)
+pub in_window-marks : (now c n : ℕ) (xs ys : List (Option Held)) → AllZip (IsMarkedDue now) xs ys → in_window c n ys ≡ map (due_again now) (in_window c n xs)
 in_window-marks now c n [] [] h = refl
 in_window-marks now c n (x ∷ xs) [] h = absurd h
 in_window-marks now c n [] (y ∷ ys) h = absurd h
@@ -137,7 +138,7 @@ in_window-marks now c n (Some k ∷ xs) (Some m ∷ ys) h =
     let rest : in_window c (n + 1) ys ≡ map (due_again now) (in_window c (n + 1) xs) = in_window-marks now c (n + 1) xs ys h.1 in
     cc
 
-first_written-none : (now : ℕ) (us : List Unacknowledged) → first_written now 0 us ≡ us
+pub first_written-none : (now : ℕ) (us : List Unacknowledged) → first_written now 0 us ≡ us
 first_written-none now [] = refl
 first_written-none now (u ∷ us) = refl
 
@@ -304,5 +305,5 @@ sizes_after xs ys zs place k after parts =
     sym (length-set xs place None) ∙ sym (ap length after) ∙ ap length parts ∙ length-append (replicate k None) zs
     ∙ ap (λ (j : ℕ). j + length zs) (length-replicate k None)
 
-pub find_none_in : (now c n : ℕ) (xs : List (Option Held)) → list_any (passes (held_lost now)) xs ≡ false → find (is_lost now) (in_window c n xs) ≡ None
-find_none_in now c n xs e = find_none (is_lost now) (held_lost now) (λ c n h. refl) c n xs e
+pub find_none_in : (now c n : ℕ) (xs : List (Option Held)) → list_any (passes (held_lost now)) xs ≡ false → find (had_last_wait now) (in_window c n xs) ≡ None
+find_none_in now c n xs e = find_none (had_last_wait now) (held_lost now) (λ c n h. refl) c n xs e

@@ -13,6 +13,7 @@ use Rattle.gs_enet.specs.World.{Written, one_written}
 use Rattle.gs_enet.proofs.Lists.{Each, each_map, each_append, each_filter}
 use Rattle.gs_enet.proofs.Rising.{Numbered}
 use Rattle.gs_enet.proofs.HeldMessages.{message_of, held_on, due_on, gather}
+use Rattle.gs_enet.proofs.Windows.{first_written-none}
 
 abbrev pub item_message : ℕ → Item → List Numbered
 item_message c (Orders o) = message_of c o.content o.channel o.number
@@ -89,7 +90,7 @@ each_take P (suc n) (x ∷ xs) h = (h.0, each_take P n xs h.1)
 abbrev pub writing : Unacknowledged → Item
 writing u = Orders u.order
 
-each_due : (P : Unacknowledged → Type 0) (over : Bool) (us : List Unacknowledged) → Each P us → Each P (due_if over us)
+pub each_due : (P : Unacknowledged → Type 0) (over : Bool) (us : List Unacknowledged) → Each P us → Each P (due_if over us)
 each_due P true us h = tt
 each_due P false us h = each_filter P is_due us h
 
@@ -145,17 +146,13 @@ written_due c now (suc n) (u ∷ us) = here u.due refl (written_due c now n us) 
       (ap (λ (b : Bool). cond b (held_on c u) []) e)
       ∙ other
 
-first_none : (now : ℕ) (us : List Unacknowledged) → first_written now 0 us ≡ us
-first_none now [] = refl
-first_none now (u ∷ us) = refl
-
 due_written : (c now : ℕ) (over : Bool) (as' : List Answer) (us : List Unacknowledged) (n : ℕ) → n ≤ length (map Answers as' ++ map writing (due_if over us))
     → item_messages c (take (n - length as') (map writing (due_if over us))) ++ gather (due_on c) (first_written now (n - length as') us) ≡ gather (due_on c) us
 due_written c now false as' us n most = written_due c now (n - length as') us
 due_written c now true as' us n most =
     let nothing : 0 ≡ n - length as' = omega (arith, most, length-append (map Answers as') [], length_map as') in
     subst (λ (k : ℕ). item_messages c (take k []) ++ gather (due_on c) (first_written now k us) ≡ gather (due_on c) us) nothing
-    (ap (gather (due_on c)) (first_none now us)) where
+    (ap (gather (due_on c)) (first_written-none now us)) where
       length_map : (bs : List Answer) → length (map Answers bs) ≡ length bs
       length_map [] = refl
       length_map (b ∷ bs) = omega (arith, length_map bs)

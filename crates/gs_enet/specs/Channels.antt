@@ -7,7 +7,7 @@ use Rattle.gs_enet.specs.declared.held.Held.{Held}
 use Rattle.gs_enet.specs.declared.channel.Channel.{Channel}
 use Rattle.gs_enet.specs.Record.{Content, Message, Order, Unacknowledged, window_span, fresh, last_number}
 use Rattle.gs_enet.specs.Receive.{is_named}
-use Rattle.gs_enet.specs.Steps.{is_lost, due_again}
+use Rattle.gs_enet.specs.Steps.{had_last_wait, due_again}
 use Rattle.gs_enet.specs.Window.{in_window, passes, held_due}
 use Rattle.gs_enet.specs.Write.{first_written}
 
@@ -52,7 +52,8 @@ pub record DropsNamed (number : ℕ) (was : Bool) (old new : Channel) : Type 0 w
 -- the number of the first lost message, if there is one
 abbrev pub LostIs : ℕ → Channel → Option ℕ → Type 0
 LostIs now ch number =
-    (c : ℕ) → option_map (λ (u : Unacknowledged). u.order.number) (find (is_lost now) (channel_held c ch)) ≡ number
+    (c : ℕ)
+    → option_map (λ (u : Unacknowledged). u.order.number) (find (had_last_wait now) (channel_held c ch)) ≡ number
 
 -- messages that have waited are due again
 pub record MarksDue (now : ℕ) (old new : Channel) : Type 0 where

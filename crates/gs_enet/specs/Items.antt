@@ -5,7 +5,7 @@ use Rattle.std.specs.List.{filter}
 use Rattle.gs_enet_wire.specs.declared.command.Command.{Command}
 use Rattle.gs_enet_wire.specs.declared.command.Command.TheVariants as command
 use Rattle.gs_enet_wire.specs.Grammar.{command_spelling, all_fields, Fit}
-use Rattle.gs_enet_wire.specs.Writing.{Puts}
+use Rattle.gs_enet_wire.specs.Writing.{PutsText}
 use Rattle.gs_enet.specs.Puts.{PutsIfFits}
 use Rattle.gs_enet.specs.declared.channel.Channel.{Channel}
 use Rattle.gs_enet.specs.declared.control.Control.{Control}
@@ -15,7 +15,7 @@ use Rattle.gs_enet.specs.Record.{is_shut}
 use Rattle.gs_enet.specs.Write.{Item, is_due, going_out, item_command, having_written}
 use Rattle.gs_enet.specs.Channels.{channel_held, all_held, SameHeld, WritesFirst, HasDue}
 use Rattle.gs_enet.specs.Controls.{control_held}
-use Rattle.gs_enet.specs.Standing.{StandsFor}
+use Rattle.gs_enet.specs.Standing.{IsPeerOf}
 
 -- ---- a message of a channel
 
@@ -63,8 +63,8 @@ abbrev pub HasNoneDue : Peer → Type 0
 HasNoneDue p = filter is_due (all_held 0 p.channels.items) ≡ []
 
 -- the peer is as before, but for what it noted of where messages are due
-pub record IsAsBefore (old new : Peer) : Type 0 where
-  pub stands : (r : PeerRecord) → StandsFor old r → StandsFor new r
+pub record IsPeerAsBefore (old new : Peer) : Type 0 where
+  pub stands : (r : PeerRecord) → IsPeerOf old r → IsPeerOf new r
   pub state : new.state ≡ old.state
   pub pending : new.pending.items ≡ old.pending.items
   pub control : new.control ≡ old.control
@@ -85,11 +85,11 @@ pub record WritesItem (r : PeerRecord) (place end : ℕ) (new : Peer) (before af
   pub rest : List Item
   pub front : going_out r ≡ item ∷ rest
   pub fits : end ≤ datagram_room
-  pub put : Puts (command_spelling (item_command r item)) place end before after
+  pub put : PutsText (command_spelling (item_command r item)) place end before after
   pub fit : Fit (all_fields (item_command r item))
-  pub stands : StandsFor new (having_written 1 r)
+  pub stands : IsPeerOf new (having_written 1 r)
 
 -- the first item was written if it fits
 abbrev pub WritesOne : PeerRecord → ℕ → Option ℕ → Peer → List ℕ → List ℕ → Type 0
-WritesOne r place None new before after = ((going_out r ≡ []) ⊎ IsTooLong r place) × StandsFor new r × (after ≡ before)
+WritesOne r place None new before after = ((going_out r ≡ []) ⊎ IsTooLong r place) × IsPeerOf new r × (after ≡ before)
 WritesOne r place (Some end) new before after = WritesItem r place end new before after

@@ -143,30 +143,31 @@ acknowledge_came channel number r = acknowledged_if (find (is_named channel numb
 
 -- ---- a datagram
 
-abbrev pub answer_to : ℕ → ℕ → ℕ → Answer
-answer_to sent channel number = record { channel = channel; number = number; sent = sent; to_disconnect = false }
+abbrev pub owed_answer : ℕ → ℕ → ℕ → Answer
+owed_answer sent channel number = record { channel = channel; number = number; sent = sent; to_disconnect = false }
 
 -- One command, of a datagram with that sent time. What isn't named here is ignored.
-unfoldable pub received : ℕ → Command → PeerRecord → PeerRecord
-received sent (command.Acknowledge channel number asks named named_sent) r = acknowledge_came channel named r
-received sent (command.VerifyConnect channel number asks peer incoming outgoing mtu window most incoming_bandwidth
+unfoldable pub command_received : ℕ → Command → PeerRecord → PeerRecord
+command_received sent (command.Acknowledge channel number asks named named_sent) r = acknowledge_came channel named r
+command_received sent
+    (command.VerifyConnect channel number asks peer incoming outgoing mtu window most incoming_bandwidth
     outgoing_bandwidth throttle_interval acceleration deceleration connect_id) r =
-    verify_came peer connect_id (answer_to sent channel number) r
-received sent (command.Disconnect channel number asks extra) r =
-    disconnect_came (record (answer_to sent channel number) { to_disconnect = true }) r
-received sent (command.Ping channel number asks) r = other_came asks (answer_to sent channel number) r
-received sent (command.Bandwidth channel number asks incoming outgoing) r =
-    other_came asks (answer_to sent channel number) r
-received sent (command.Throttle channel number asks interval acceleration deceleration) r =
-    other_came asks (answer_to sent channel number) r
-received sent (command.Reliable channel number asks bytes) r =
-    message_came channel number bytes (answer_to sent channel number) r
-received sent _ r = r
+    verify_came peer connect_id (owed_answer sent channel number) r
+command_received sent (command.Disconnect channel number asks extra) r =
+    disconnect_came (record (owed_answer sent channel number) { to_disconnect = true }) r
+command_received sent (command.Ping channel number asks) r = other_came asks (owed_answer sent channel number) r
+command_received sent (command.Bandwidth channel number asks incoming outgoing) r =
+    other_came asks (owed_answer sent channel number) r
+command_received sent (command.Throttle channel number asks interval acceleration deceleration) r =
+    other_came asks (owed_answer sent channel number) r
+command_received sent (command.Reliable channel number asks bytes) r =
+    message_came channel number bytes (owed_answer sent channel number) r
+command_received sent _ r = r
 
 abbrev pub all_received : ℕ → List Command → PeerRecord → PeerRecord
 all_received sent [] r = r
-all_received sent (c ∷ cs) r = all_received sent cs (received sent c r)
+all_received sent (c ∷ cs) r = all_received sent cs (command_received sent c r)
 
 -- the commands of a datagram, one after the other; its header says nothing but the sent time
-abbrev pub taken : Datagram → ℕ → PeerRecord → PeerRecord
-taken d now r = all_received (unwrap_or d.sent 0) d.commands (at_moment now r)
+abbrev pub datagram_taken : Datagram → ℕ → PeerRecord → PeerRecord
+datagram_taken d now r = all_received (unwrap_or d.sent 0) d.commands (at_moment now r)

@@ -61,7 +61,7 @@ pub record Unacknowledged : Type 0 where
   pub due : Bool
 
 -- a message that the user gave to be sent
-pub record Given : Type 0 where
+pub record GivenMessage : Type 0 where
   pub channel : ℕ
   pub bytes : List ℕ
 
@@ -82,7 +82,7 @@ pub record PeerRecord : Type 0 where
   -- the last number that it used on the control channel
   pub last_control : ℕ
   -- every message given, in order
-  pub given : List Given
+  pub given : List GivenMessage
   -- every event told, in order, and those that wait to be told
   pub told : List PeerEvent
   pub waiting : List PeerEvent
@@ -93,7 +93,7 @@ pub record PeerRecord : Type 0 where
 
 -- ---- what was given and what was told, by channel
 
-abbrev pub given_on : ℕ → List Given → List (List ℕ)
+abbrev pub given_on : ℕ → List GivenMessage → List (List ℕ)
 given_on channel [] = []
 given_on channel (g ∷ gs) = if g.channel == channel then g.bytes ∷ given_on channel gs else given_on channel gs
 

@@ -17,7 +17,7 @@ HasCounts r chs =
 abbrev pub held_by : Peer → List Unacknowledged
 held_by p = control_held p.control ++ all_held 0 p.channels.items
 
-pub record StandsFor (p : Peer) (r : PeerRecord) : Type 0 where
+pub record IsPeerOf (p : Peer) (r : PeerRecord) : Type 0 where
   pub state : r.state ≡ p.state
   pub own : r.own ≡ p.own
   pub other : r.other ≡ p.other

@@ -104,8 +104,8 @@ abbrev pub has_waited : ℕ → Unacknowledged → Bool
 has_waited now u = not u.due && nat_le (u.written + wait_after u.writes) now
 
 -- the command had its last wait
-abbrev pub is_lost : ℕ → Unacknowledged → Bool
-is_lost now u = has_waited now u && nat_le most_writes u.writes
+abbrev pub had_last_wait : ℕ → Unacknowledged → Bool
+had_last_wait now u = has_waited now u && nat_le most_writes u.writes
 
 abbrev pub due_again : ℕ → Unacknowledged → Unacknowledged
 due_again now u = record u { due = u.due || has_waited now u }
@@ -117,7 +117,7 @@ timed_if false (Some u) r = shut (happened (event.Lost u.order.channel u.order.n
 timed_if false None r = record r { unacknowledged = map (due_again r.now) r.unacknowledged }
 
 abbrev pub timed_at : PeerRecord → PeerRecord
-timed_at r = timed_if (is_shut r.state) (find (is_lost r.now) r.unacknowledged) r
+timed_at r = timed_if (is_shut r.state) (find (had_last_wait r.now) r.unacknowledged) r
 
 unfoldable pub timed : ℕ → PeerRecord → PeerRecord
 timed now r = timed_at (at_moment now r)

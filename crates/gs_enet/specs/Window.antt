@@ -4,7 +4,7 @@ use Rattle.std.specs.Prelude.{ℕ, ◌+◌, ◌&&◌, not, Bool, true, false, Li
 use Rattle.std.specs.Prelude.{slice_index_or}
 use Rattle.gs_enet.specs.declared.held.Held.{Held}
 use Rattle.gs_enet.specs.Record.{Message, Unacknowledged}
-use Rattle.gs_enet.specs.Steps.{has_waited, is_lost, due_again}
+use Rattle.gs_enet.specs.Steps.{has_waited, had_last_wait, due_again}
 use Rattle.gs_enet.specs.Write.{written_once}
 
 -- the message of that number on that channel
@@ -33,16 +33,16 @@ abbrev pub held_waited : ℕ → Held → Bool
 held_waited now h = has_waited now (unacknowledged 0 0 h)
 
 abbrev pub held_lost : ℕ → Held → Bool
-held_lost now h = is_lost now (unacknowledged 0 0 h)
+held_lost now h = had_last_wait now (unacknowledged 0 0 h)
 
 abbrev pub held_due : Held → Bool
 held_due h = h.due
 
 -- the message in a place is due again if it has waited, and all else stays
-abbrev pub Marks : ℕ → Option Held → Option Held → Type 0
-Marks now None new = new ≡ None
-Marks now (Some h) None = ⊥
-Marks now (Some h) (Some k) = unacknowledged 0 0 k ≡ due_again now (unacknowledged 0 0 h)
+abbrev pub IsMarkedDue : ℕ → Option Held → Option Held → Type 0
+IsMarkedDue now None new = new ≡ None
+IsMarkedDue now (Some h) None = ⊥
+IsMarkedDue now (Some h) (Some k) = unacknowledged 0 0 k ≡ due_again now (unacknowledged 0 0 h)
 
 -- the message in a place was written once more
 abbrev pub Rewrites : ℕ → Option Held → Option Held → Type 0

@@ -121,8 +121,8 @@ abbrev pub address : Option ℕ → ℕ
 address (Some other) = other % 4096
 address None = nobody
 
-abbrev pub datagram_of : PeerRecord → List Item → Datagram
-datagram_of r items = record {
+abbrev pub items_datagram : PeerRecord → List Item → Datagram
+items_datagram r items = record {
   peer = address r.other;
   session = 0;
   sent = Some (r.now % 65536);
@@ -131,7 +131,7 @@ datagram_of r items = record {
 
 abbrev pub datagram_if : PeerRecord → List Item → Option Datagram
 datagram_if r [] = None
-datagram_if r (x ∷ xs) = Some (datagram_of r (x ∷ xs))
+datagram_if r (x ∷ xs) = Some (items_datagram r (x ∷ xs))
 
 -- the next datagram at that moment; there is none where nothing is to be written
 abbrev pub next_datagram : ℕ → PeerRecord → Option Datagram

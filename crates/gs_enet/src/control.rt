@@ -32,7 +32,7 @@ pub struct Control {
 
 impl Control {
     ghost use Rattle.gs_enet.specs.Record.{fresh, control};
-    ghost use Rattle.gs_enet.specs.Steps.{has_waited, is_lost, due_again};
+    ghost use Rattle.gs_enet.specs.Steps.{has_waited, had_last_wait, due_again};
     ghost use Rattle.gs_enet.specs.Write.{written_once};
     ghost use Rattle.gs_enet.specs.Controls.{content_of, unacknowledged_control};
 
@@ -58,14 +58,14 @@ impl Control {
 
     /// Whether the command had its last wait.
     pub fn is_lost(&self, now: u32) -> bool
-        ensures { result ≡ is_lost now (unacknowledged_control self.now) }
+        ensures { result ≡ had_last_wait now (unacknowledged_control self.now) }
     {
         self.has_waited(now) && self.writes >= MOST_WRITES
     }
 
     /// Makes the command due again if it has waited.
     pub fn mark_due(&mut self, now: u32)
-        requires { is_lost now (unacknowledged_control self.old) ≡ false }
+        requires { had_last_wait now (unacknowledged_control self.old) ≡ false }
         ensures { unacknowledged_control self.new ≡ due_again now (unacknowledged_control self.old) }
     {
         if self.has_waited(now) {

@@ -5,7 +5,7 @@ ghost use Rattle.gs_enet.specs.Record.{PeerRecord};
 ghost use Rattle.gs_enet.specs.Receive.{leaving};
 ghost use Rattle.gs_enet.specs.Steps.{closed};
 ghost use Rattle.gs_enet.specs.Rooms.{Grows};
-ghost use Rattle.gs_enet.specs.Standing.{StandsFor, held_by};
+ghost use Rattle.gs_enet.specs.Standing.{IsPeerOf, held_by};
 
 use crate::control::{Control, ControlKind};
 use crate::holding::nothing_held;
@@ -15,7 +15,7 @@ impl Peer {
     /// Closes the connection: a DISCONNECT, with 0 as its `data`, is due once everything that was sent is
     /// acknowledged. Where the connection isn't up, nothing happens.
     pub fn close(&mut self)
-        ensures { (r : PeerRecord) → StandsFor self.old r → StandsFor self.new (closed r) }
+        ensures { (r : PeerRecord) → IsPeerOf self.old r → IsPeerOf self.new (closed r) }
     {
         if self.state.is_open() {
             self.state = PeerState::Closing;
@@ -25,7 +25,7 @@ impl Peer {
 
     /// A closing side disconnects once all that it sent is acknowledged.
     pub(crate) fn leave(&mut self)
-        ensures stands { (r : PeerRecord) → StandsFor self.old r → StandsFor self.new (leaving r) }
+        ensures stands { (r : PeerRecord) → IsPeerOf self.old r → IsPeerOf self.new (leaving r) }
         ensures grows { Grows 0 0 self.old self.new }
     {
         if !self.state.is_closing() || !self.holds_nothing() {

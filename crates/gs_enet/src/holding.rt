@@ -4,7 +4,7 @@ ghost use Rattle.std.specs.Prelude.{◌≡◌, ◌≤◌, ◌<◌, ◌↔◌, Is
 ghost use Rattle.std.specs.List.{All, AllZip};
 ghost use Rattle.std.specs.Option.{option_map};
 ghost use Rattle.gs_enet.specs.Record;
-ghost use Rattle.gs_enet.specs.Steps.{is_lost, name_of};
+ghost use Rattle.gs_enet.specs.Steps.{had_last_wait, name_of};
 ghost use Rattle.gs_enet.specs.Channels.{AreEmpty, LostIs, MarksDue, HasDue, AreSame, all_held};
 ghost use Rattle.gs_enet.specs.Busy.{AreIdle};
 ghost use Rattle.gs_enet.specs.declared.channel.Channel.{Channel};
@@ -21,7 +21,7 @@ pub fn nothing_held(channels: &[Channel]) -> bool
 /// The channel and the number of the first message that had its last wait.
 pub fn first_lost(channels: &[Channel], now: u32) -> Option<(u8, u64)>
     requires { length channels.now ≤ Record.channels }
-    ensures { result ≡ option_map name_of (find (is_lost now) (all_held 0 channels.now)) }
+    ensures { result ≡ option_map name_of (find (had_last_wait now) (all_held 0 channels.now)) }
 {
     for (index, channel) in channels.iter().enumerate() {
         if let Some(number) = channel.first_lost(now) {

@@ -51,7 +51,7 @@ pub struct Peer {
 
 impl Peer {
     ghost use Rattle.gs_enet.specs.Record.{connecting, accepting};
-    ghost use Rattle.gs_enet.specs.Standing.{StandsFor};
+    ghost use Rattle.gs_enet.specs.Standing.{IsPeerOf};
 
     /// The client's side: it asks for a connection by a CONNECT with its own id (`outgoingPeerID` there),
     /// the connect id (`connectID`) and a number of the user's own (`data`). `now` is the moment in
@@ -63,7 +63,7 @@ impl Peer {
         extra: u32,
         now: u32,
     ) -> Result<Peer, OutOfMemory>
-        ensures { IfOk result (λ peer. StandsFor peer (connecting own connect_id extra now)) }
+        ensures { IfOk result (λ peer. IsPeerOf peer (connecting own connect_id extra now)) }
     {
         Ok(Peer {
             state: PeerState::Connecting,
@@ -87,7 +87,7 @@ impl Peer {
     /// and the connect id that came. `now` is the moment in milliseconds.
     pub fn accept(alloc: Global, own: u16, connect: &Connect, now: u32) -> Result<Peer, OutOfMemory>
         ensures { IfOk result (λ peer.
-            StandsFor peer (accepting own connect.now.peer connect.now.connect_id now)) }
+            IsPeerOf peer (accepting own connect.now.peer connect.now.connect_id now)) }
     {
         Ok(Peer {
             state: PeerState::Accepting,

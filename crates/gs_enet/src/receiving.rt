@@ -2,8 +2,9 @@
 
 ghost use Rattle.std.specs.Prelude.{◌≡◌, ◌<◌, not};
 ghost use Rattle.gs_enet.specs.Record.{PeerRecord, channels, control, owing, happened, shut};
-ghost use Rattle.gs_enet.specs.Receive.{acknowledge_came, connected, message_came, verify_came, disconnect_came, other_came, expected, is_connect};
-ghost use Rattle.gs_enet.specs.Standing.{StandsFor};
+ghost use Rattle.gs_enet.specs.Receive.{acknowledge_came, connected, message_came, verify_came, disconnect_came};
+ghost use Rattle.gs_enet.specs.Receive.{other_came, expected, is_connect};
+ghost use Rattle.gs_enet.specs.Standing.{IsPeerOf};
 ghost use Rattle.gs_enet.specs.Events.{IsQuiet};
 ghost use Rattle.gs_enet.specs.Rooms.{HasEventRoom, HasAnswerRoom, Grows, HearsMore};
 ghost use Rattle.std.specs.List.{filter};
@@ -20,7 +21,7 @@ impl Peer {
     /// Owes an answer.
     pub(crate) fn owe(&mut self, answer: Answer)
         requires { HasAnswerRoom self.old }
-        ensures stands { (r : PeerRecord) → StandsFor self.old r → StandsFor self.new (owing answer r) }
+        ensures stands { (r : PeerRecord) → IsPeerOf self.old r → IsPeerOf self.new (owing answer r) }
         ensures grows { Grows 0 1 self.old self.new }
     {
         let Ok(()) = self.pending.push_back(answer) else {
@@ -32,7 +33,7 @@ impl Peer {
     pub(crate) fn happen(&mut self, event: PeerEvent)
         requires room { HasEventRoom self.old }
         requires quiet { IsQuiet event }
-        ensures stands { (r : PeerRecord) → StandsFor self.old r → StandsFor self.new (happened event r) }
+        ensures stands { (r : PeerRecord) → IsPeerOf self.old r → IsPeerOf self.new (happened event r) }
         ensures grows { Grows 1 0 self.old self.new }
     {
         let Ok(()) = self.waiting.push_back(event) else {
@@ -42,7 +43,7 @@ impl Peer {
 
     /// The connection is over: of the answers that are owed only those to a disconnect are written.
     pub(crate) fn shut(&mut self)
-        ensures stands { (r : PeerRecord) → StandsFor self.old r → StandsFor self.new (shut r) }
+        ensures stands { (r : PeerRecord) → IsPeerOf self.old r → IsPeerOf self.new (shut r) }
         ensures grows { Grows 0 0 self.old self.new }
     {
         self.state = PeerState::Shut;
@@ -53,7 +54,7 @@ impl Peer {
     pub(crate) fn disconnect_came(&mut self, answer: Answer)
         requires events { HasEventRoom self.old }
         requires answers { HasAnswerRoom self.old }
-        ensures stands { (r : PeerRecord) → StandsFor self.old r → StandsFor self.new (disconnect_came answer r) }
+        ensures stands { (r : PeerRecord) → IsPeerOf self.old r → IsPeerOf self.new (disconnect_came answer r) }
         ensures grows { Grows 1 1 self.old self.new }
     {
         if self.disconnected {
@@ -70,7 +71,7 @@ impl Peer {
     pub(crate) fn other_came(&mut self, asks: bool, answer: Answer)
         requires events { HasEventRoom self.old }
         requires answers { HasAnswerRoom self.old }
-        ensures stands { (r : PeerRecord) → StandsFor self.old r → StandsFor self.new (other_came asks answer r) }
+        ensures stands { (r : PeerRecord) → IsPeerOf self.old r → IsPeerOf self.new (other_came asks answer r) }
         ensures grows { Grows 0 1 self.old self.new }
     {
         if asks && !self.state.is_shut() {
@@ -82,8 +83,8 @@ impl Peer {
     pub(crate) fn message_came(&mut self, channel: u8, number: u16, bytes: Text, answer: Answer)
         requires events { HasEventRoom self.old }
         requires answers { HasAnswerRoom self.old }
-        ensures stands { (r : PeerRecord) → StandsFor self.old r
-            → StandsFor self.new (message_came channel number bytes answer r) }
+        ensures stands { (r : PeerRecord) → IsPeerOf self.old r
+            → IsPeerOf self.new (message_came channel number bytes answer r) }
         ensures grows { Grows 1 1 self.old self.new }
     {
         let place = usize::from(channel);
@@ -104,8 +105,8 @@ impl Peer {
         requires room { HasEventRoom self.old }
         requires channel { channel < channels }
         requires number { HearsMore channel self.old }
-        ensures stands { (r : PeerRecord) → StandsFor self.old r
-            → StandsFor self.new (happened (PeerEvent.Message channel (expected r channel) bytes) r) }
+        ensures stands { (r : PeerRecord) → IsPeerOf self.old r
+            → IsPeerOf self.new (happened (PeerEvent.Message channel (expected r channel) bytes) r) }
         ensures grows { Grows 1 0 self.old self.new }
     {
         let heard = &mut self.channels[usize::from(channel)];
@@ -125,8 +126,8 @@ impl Peer {
     pub(crate) fn verify_came(&mut self, peer: u16, connect_id: u32, answer: Answer)
         requires events { HasEventRoom self.old }
         requires answers { HasAnswerRoom self.old }
-        ensures stands { (r : PeerRecord) → StandsFor self.old r
-            → StandsFor self.new (verify_came peer connect_id answer r) }
+        ensures stands { (r : PeerRecord) → IsPeerOf self.old r
+            → IsPeerOf self.new (verify_came peer connect_id answer r) }
         ensures grows { Grows 1 1 self.old self.new }
     {
         if self.extra.is_none() || connect_id != self.connect_id {
@@ -148,8 +149,8 @@ impl Peer {
     /// An acknowledgement of the command with that channel and that number on the wire.
     pub(crate) fn acknowledge_came(&mut self, channel: u8, number: u16)
         requires { HasEventRoom self.old }
-        ensures stands { (r : PeerRecord) → StandsFor self.old r
-            → StandsFor self.new (acknowledge_came channel number r) }
+        ensures stands { (r : PeerRecord) → IsPeerOf self.old r
+            → IsPeerOf self.new (acknowledge_came channel number r) }
         ensures grows { Grows 1 0 self.old self.new }
     {
         if channel == CONTROL {
@@ -169,8 +170,8 @@ impl Peer {
     /// An acknowledgement of a command of the control channel.
     fn acknowledge_control(&mut self, number: u16)
         requires { HasEventRoom self.old }
-        ensures stands { (r : PeerRecord) → StandsFor self.old r
-            → StandsFor self.new (acknowledge_came control number r) }
+        ensures stands { (r : PeerRecord) → IsPeerOf self.old r
+            → IsPeerOf self.new (acknowledge_came control number r) }
         ensures grows { Grows 1 0 self.old self.new }
     {
         let Some(control) = self.control else {
@@ -197,7 +198,7 @@ impl Peer {
     /// A host's answer to a connect is acknowledged.
     fn accepted(&mut self)
         requires { HasEventRoom self.old }
-        ensures stands { (r : PeerRecord) → StandsFor self.old r → StandsFor self.new (connected r.state r) }
+        ensures stands { (r : PeerRecord) → IsPeerOf self.old r → IsPeerOf self.new (connected r.state r) }
         ensures grows { Grows 1 0 self.old self.new }
     {
         if self.state.is_accepting() {

@@ -2,7 +2,7 @@
 
 ghost use Rattle.std.specs.Prelude.{◌≤◌, ◌<◌, length};
 ghost use Rattle.gs_enet.specs.Record.{PeerRecord, channels, most_message};
-ghost use Rattle.gs_enet.specs.Standing.{StandsFor};
+ghost use Rattle.gs_enet.specs.Standing.{IsPeerOf};
 ghost use Rattle.gs_enet.specs.Outcomes.{Sends, TellsNext};
 
 use crate::{Peer, PeerEvent, SendError};
@@ -15,7 +15,7 @@ impl Peer {
         requires channel { channel < channels }
         requires some { 1 ≤ length bytes.now }
         requires short { length bytes.now ≤ most_message }
-        ensures { (r : PeerRecord) → StandsFor self.old r → Sends r channel bytes.now result self.new }
+        ensures { (r : PeerRecord) → IsPeerOf self.old r → Sends r channel bytes.now result self.new }
     {
         if !self.state.is_open() {
             return Err(SendError::NotOpen);
@@ -38,7 +38,7 @@ impl Peer {
 
     /// The event that has waited longest.
     pub fn next_event(&mut self) -> Option<PeerEvent>
-        ensures { (r : PeerRecord) → StandsFor self.old r → TellsNext r result self.new }
+        ensures { (r : PeerRecord) → IsPeerOf self.old r → TellsNext r result self.new }
     {
         self.waiting.pop_front()
     }

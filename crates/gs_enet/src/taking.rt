@@ -1,11 +1,11 @@
 //! Datagrams that come.
 
 ghost use Rattle.std.specs.Prelude.{ℕ, None, is_some, ◌≡◌, ◌⊎◌, ◌≤◌, ◌+◌, Ok, Err, IfOk, IfErr, OnOk, OnErr, length};
-ghost use Rattle.gs_enet_wire.specs.Grammar.{most_datagram, IsFaultAt, head};
+ghost use Rattle.gs_enet_wire.specs.Grammar.{most_on_link, IsFaultAt, command_head};
 ghost use Rattle.gs_enet.specs.Record.{PeerRecord};
-ghost use Rattle.gs_enet.specs.Receive.{received, all_received, answer_to};
-ghost use Rattle.gs_enet.specs.Standing.{StandsFor};
-ghost use Rattle.gs_enet.specs.Outcomes.{Takes, IsTakeFault};
+ghost use Rattle.gs_enet.specs.Receive.{command_received, all_received, owed_answer};
+ghost use Rattle.gs_enet.specs.Standing.{IsPeerOf};
+ghost use Rattle.gs_enet.specs.Outcomes.{PeerTakes, IsTakeFault};
 ghost use Rattle.gs_enet.specs.Rooms.{message_bytes, HasRooms, HasEventRoom, HasAnswerRoom, Grows};
 
 use crate::answer::Answer;
@@ -21,8 +21,8 @@ impl Peer {
     ///
     /// `BadDatagram` has the place of the first fault in bytes from the front, by the grammar of datagrams.
     pub fn take(&mut self, datagram: &[u8], now: u32) -> Result<(), TakeError>
-        ensures taken { IfOk result (λ _. Takes datagram.now now self.old self.new) }
-        ensures refused { OnErr result ((r : PeerRecord) → StandsFor self.old r → StandsFor self.new r) }
+        ensures taken { IfOk result (λ _. PeerTakes datagram.now now self.old self.new) }
+        ensures refused { OnErr result ((r : PeerRecord) → IsPeerOf self.old r → IsPeerOf self.new r) }
         ensures bad { IfErr result (IsTakeFault datagram.now) }
         ensures bad_only { (place : ℕ) → IsFaultAt datagram.now place
             → (result ≡ Err (TakeError.BadDatagram place)) ⊎ (result ≡ Err TakeError.OutOfMemory) }
@@ -35,7 +35,7 @@ impl Peer {
 
     /// The vector that is kept for the commands of datagrams.
     fn lend_commands(&mut self) -> Vec<Command>
-        ensures { (r : PeerRecord) → StandsFor self.old r → StandsFor self.new r }
+        ensures { (r : PeerRecord) → IsPeerOf self.old r → IsPeerOf self.new r }
     {
         let none = Vec::new(*self.commands.allocator());
         replace(&mut self.commands, none)
@@ -43,7 +43,7 @@ impl Peer {
 
     /// Takes that vector back.
     fn keep_commands(&mut self, commands: Vec<Command>)
-        ensures { (r : PeerRecord) → StandsFor self.old r → StandsFor self.new r }
+        ensures { (r : PeerRecord) → IsPeerOf self.old r → IsPeerOf self.new r }
     {
         self.commands = commands;
     }
@@ -55,8 +55,8 @@ impl Peer {
         datagram: &[u8],
         now: u32,
     ) -> Result<(), TakeError>
-        ensures taken { IfOk result (λ _. Takes datagram.now now self.old self.new) }
-        ensures refused { OnErr result ((r : PeerRecord) → StandsFor self.old r → StandsFor self.new r) }
+        ensures taken { IfOk result (λ _. PeerTakes datagram.now now self.old self.new) }
+        ensures refused { OnErr result ((r : PeerRecord) → IsPeerOf self.old r → IsPeerOf self.new r) }
         ensures bad { IfErr result (IsTakeFault datagram.now) }
         ensures bad_only { (place : ℕ) → IsFaultAt datagram.now place
             → (result ≡ Err (TakeError.BadDatagram place)) ⊎ (result ≡ Err TakeError.OutOfMemory) }
@@ -76,9 +76,9 @@ impl Peer {
 
     /// Makes room for what so many commands may add.
     fn make_room(&mut self, commands: usize) -> Result<(), AllocError>
-        requires { commands ≤ most_datagram }
+        requires { commands ≤ most_on_link }
         ensures room { OnOk result (HasRooms commands self.new) }
-        ensures same { (r : PeerRecord) → StandsFor self.old r → StandsFor self.new r }
+        ensures same { (r : PeerRecord) → IsPeerOf self.old r → IsPeerOf self.new r }
     {
         self.waiting.reserve(commands + 1)?;
         self.pending.reserve(commands)?;
@@ -88,8 +88,8 @@ impl Peer {
     /// Acts on the commands of a datagram, one after the other, and leaves the vector without them.
     fn receive_all(&mut self, sent: u16, commands: &mut Vec<Command>)
         requires { HasRooms (length commands.old.items) self.old }
-        ensures { (r : PeerRecord) → StandsFor self.old r
-            → StandsFor self.new (all_received sent commands.old.items r) }
+        ensures { (r : PeerRecord) → IsPeerOf self.old r
+            → IsPeerOf self.new (all_received sent commands.old.items r) }
     {
         let none = Vec::new(*commands.allocator());
         let mut rest = VecDeque::from_vec(replace(commands, none));
@@ -103,7 +103,7 @@ impl Peer {
     pub(crate) fn receive(&mut self, sent: u16, command: Command)
         requires events { HasEventRoom self.old }
         requires answers { HasAnswerRoom self.old }
-        ensures stands { (r : PeerRecord) → StandsFor self.old r → StandsFor self.new (received sent command r) }
+        ensures stands { (r : PeerRecord) → IsPeerOf self.old r → IsPeerOf self.new (command_received sent command r) }
         ensures grows { Grows 1 1 self.old self.new }
     {
         let answer = Answer {
@@ -127,9 +127,10 @@ impl Peer {
         requires events { HasEventRoom self.old }
         requires answers { HasAnswerRoom self.old }
         requires other { message_bytes command.now ≡ None }
-        requires answer { answer ≡ answer_to answer.sent (head command.now).channel (head command.now).number }
-        ensures stands { (r : PeerRecord) → StandsFor self.old r
-            → StandsFor self.new (received answer.sent command.now r) }
+        requires answer { answer
+            ≡ owed_answer answer.sent (command_head command.now).channel (command_head command.now).number }
+        ensures stands { (r : PeerRecord) → IsPeerOf self.old r
+            → IsPeerOf self.new (command_received answer.sent command.now r) }
         ensures grows { Grows 1 1 self.old self.new }
     {
         match command {

@@ -1,9 +1,10 @@
 //! The window of a channel: a place for each number from the oldest that isn't acknowledged on.
 
-ghost use Rattle.std.specs.Prelude.{◌≡◌, ◌≤◌, ◌<◌, ◌+◌, ◌++◌, ℕ, List, [], ◌∷◌, Option, Some, None, true, false, length, map, take, drop, replicate, position, slice_set, slice_index_or, is_some};
+ghost use Rattle.std.specs.Prelude.{◌≡◌, ◌≤◌, ◌<◌, ◌+◌, ◌++◌, ℕ, List, [], ◌∷◌, Option, Some, None, true, false};
+ghost use Rattle.std.specs.Prelude.{length, map, take, drop, replicate, position, slice_set, slice_index_or, is_some};
 ghost use Rattle.std.specs.List.{list_any, AllZip};
 ghost use Rattle.gs_enet.specs.declared.held.Held.{Held};
-ghost use Rattle.gs_enet.specs.Window.{passes, held_waited, held_lost, held_due, front_is_held, Marks, Writes};
+ghost use Rattle.gs_enet.specs.Window.{passes, held_waited, held_lost, held_due, front_is_held, IsMarkedDue, Writes};
 
 use crate::held::Held;
 use std::collections::VecDeque;
@@ -73,7 +74,7 @@ fn is_due(slot: &Option<Held>) -> bool
 /// Makes the message in a place due again if it has waited.
 fn mark_slot(slot: &mut Option<Held>, now: u32)
     requires { passes (held_lost now) slot.old ≡ false }
-    ensures { Marks now slot.old slot.new }
+    ensures { IsMarkedDue now slot.old slot.new }
 {
     if let Some(held) = slot
         && held.has_waited(now)
@@ -86,7 +87,7 @@ fn mark_slot(slot: &mut Option<Held>, now: u32)
 pub fn mark_due(window: &mut VecDeque<Option<Held>>, now: u32)
     requires { list_any (passes (held_lost now)) window.old.items ≡ false }
     ensures len { length window.new.items ≡ length window.old.items }
-    ensures marks { AllZip (Marks now) window.old.items window.new.items }
+    ensures marks { AllZip (IsMarkedDue now) window.old.items window.new.items }
 {
     for place in 0..window.len() {
         mark_slot(&mut window[place], now);

@@ -5,10 +5,11 @@ ghost use Rattle.gs_enet_wire.specs.Grammar.{payload};
 ghost use Rattle.gs_enet.specs.Record.{PeerRecord, control, datagram_room, is_shut};
 ghost use Rattle.gs_enet.specs.Write.{address, order_command};
 ghost use Rattle.gs_enet.specs.Controls.{content_of};
-ghost use Rattle.gs_enet.specs.Standing.{StandsFor};
+ghost use Rattle.gs_enet.specs.Standing.{IsPeerOf};
 ghost use Rattle.gs_enet.specs.Outcomes.{WritesNext};
 ghost use Rattle.gs_enet.specs.Puts.{PutsIfFits};
-ghost use Rattle.gs_enet.specs.Items.{WritesOne, HasControlDue, HasNoControlDue, HasMessageDue, HasNoneDue, IsAsBefore};
+ghost use Rattle.gs_enet.specs.Items.{WritesOne, HasControlDue, HasNoControlDue, HasMessageDue, HasNoneDue};
+ghost use Rattle.gs_enet.specs.Items.{IsPeerAsBefore};
 
 use crate::answer::Answer;
 use crate::control::{Control, ControlKind};
@@ -29,7 +30,7 @@ impl Peer {
     pub fn next_out(&mut self, now: u32, out: &mut [u8]) -> Option<usize>
         requires { datagram_room ≤ length out.old }
         ensures size { IfSome result (λ size. size ≤ datagram_room) }
-        ensures written { (r : PeerRecord) → StandsFor self.old r → WritesNext r now result self.new out.old out.new }
+        ensures written { (r : PeerRecord) → IsPeerOf self.old r → WritesNext r now result self.new out.old out.new }
     {
         self.see(now);
         let Some(first) = self.write_item(out, HEADER) else {
@@ -59,7 +60,7 @@ impl Peer {
         requires room { datagram_room ≤ length out.old }
         requires place { place ≤ datagram_room }
         ensures end { IfSome result (λ end. (place < end) × (end ≤ datagram_room)) }
-        ensures written { (r : PeerRecord) → StandsFor self.old r → WritesOne r place result self.new out.old out.new }
+        ensures written { (r : PeerRecord) → IsPeerOf self.old r → WritesOne r place result self.new out.old out.new }
     {
         if !self.pending.is_empty() {
             return self.write_answer(out, place);
@@ -93,7 +94,7 @@ impl Peer {
         requires place { place ≤ datagram_room }
         requires some { self.old.pending.items ≢ [] }
         ensures end { IfSome result (λ end. (place < end) × (end ≤ datagram_room)) }
-        ensures written { (r : PeerRecord) → StandsFor self.old r → WritesOne r place result self.new out.old out.new }
+        ensures written { (r : PeerRecord) → IsPeerOf self.old r → WritesOne r place result self.new out.old out.new }
     {
         let answer = self.pending[0];
         let command = Command::Acknowledge {
@@ -116,7 +117,7 @@ impl Peer {
         requires place { place ≤ datagram_room }
         requires due { HasControlDue due self.old }
         ensures end { IfSome result (λ end. (place < end) × (end ≤ datagram_room)) }
-        ensures written { (r : PeerRecord) → StandsFor self.old r → WritesOne r place result self.new out.old out.new }
+        ensures written { (r : PeerRecord) → IsPeerOf self.old r → WritesOne r place result self.new out.old out.new }
     {
         let command = self.control_command(&due);
         let Some(end) = put_if_fits(out, place, &command) else {
@@ -130,7 +131,7 @@ impl Peer {
 
     /// A command of the control channel.
     fn control_command(&self, held: &Control) -> Command
-        ensures is { (r : PeerRecord) → StandsFor self.now r
+        ensures is { (r : PeerRecord) → IsPeerOf self.now r
             → result ≡ order_command (content_of held.now.kind) control held.now.number r }
         ensures none { payload result ≡ [] }
     {
@@ -183,7 +184,7 @@ impl Peer {
     fn find_busy(&mut self) -> Option<usize>
         ensures some { IfSome result (λ c. HasMessageDue c self.new) }
         ensures none { IfNone result (HasNoneDue self.new) }
-        ensures same { IsAsBefore self.old self.new }
+        ensures same { IsPeerAsBefore self.old self.new }
     {
         self.busy.from = holding::find_busy(&mut self.channels, self.busy.from, self.busy.to);
         if self.busy.from == self.busy.to {
@@ -201,7 +202,7 @@ impl Peer {
         requires control { HasNoControlDue self.old }
         requires due { HasMessageDue channel self.old }
         ensures end { IfSome result (λ end. (place < end) × (end ≤ datagram_room)) }
-        ensures written { (r : PeerRecord) → StandsFor self.old r → WritesOne r place result self.new out.old out.new }
+        ensures written { (r : PeerRecord) → IsPeerOf self.old r → WritesOne r place result self.new out.old out.new }
     {
         let now = self.moment;
         self.channels[channel].write(channel as u8, now, out, place)

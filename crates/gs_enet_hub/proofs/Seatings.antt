@@ -9,7 +9,7 @@ use Rattle.gs_bytes.specs.declared.addr.Addr.{Addr}
 use Rattle.gs_enet.specs.declared.peer.Peer.{Peer}
 use Rattle.gs_enet_hub.specs.declared.seat.Seat.{Seat}
 use Rattle.gs_enet_hub.specs.Seats.{most_peers, IsSeatOf, IsTaken}
-use Rattle.gs_enet_hub.specs.Seating.{Seating, Member, member_at, seated, seat_of, member, peer_of, is_held, is_shared, IsSeating, place_if}
+use Rattle.gs_enet_hub.specs.Seating.{Seating, Member, member_at, seated, seat_of, member, peer_of, is_seat_held, is_shared, IsSeating, place_if}
 use Rattle.gs_enet_hub.specs.Seating.{with_own, with_peer, PutsPeer}
 use Rattle.gs_enet_hub.specs.Routing.{HasAddress, HasName, IsLive}
 
@@ -29,7 +29,7 @@ empty_seating seats peers e =
     subst (λ (x : List (Option Seat)). IsSeating x peers) (sym e) (
     record {
       all = empty_length 16;
-      held = λ key. ap (is_held peers) (empty_seat 16 key);
+      held = λ key. ap (is_seat_held peers) (empty_seat 16 key);
       apart = λ key other shared. absurd (false≢true (sym (ap (λ (x : Option Seat). is_shared x (seat_of (replicate 16 None) other)) (empty_seat 16 key))
           ∙ shared));
     }
@@ -44,9 +44,9 @@ record Stands (peers : Slab Peer) (seat : Seat) : Type 0 where
   pub peer : Peer
   pub is : get peers seat.place ≡ Some peer
 
-stands : (peers : Slab Peer) (found : Option Seat) (seat : Seat) → is_held peers found ≡ true → found ≡ Some seat → Stands peers seat
+stands : (peers : Slab Peer) (found : Option Seat) (seat : Seat) → is_seat_held peers found ≡ true → found ≡ Some seat → Stands peers seat
 stands peers found seat held e =
-    here (get peers seat.place) refl (subst (λ (x : Option Seat). is_held peers x ≡ true) e held) where
+    here (get peers seat.place) refl (subst (λ (x : Option Seat). is_seat_held peers x ≡ true) e held) where
       here : (at : Option Peer) → get peers seat.place ≡ at → is_some (get peers seat.place) ≡ true → Stands peers seat
       here None is some = absurd (false≢true (sym (ap is_some is) ∙ some))
       here (Some p) is some = record { peer = p; is = is }
@@ -56,7 +56,7 @@ pub member_taken : (peers : Slab Peer) (found : Option Seat) (seat : Seat) (p : 
 member_taken peers found seat p e is = ap (seated peers) e ∙ ap (λ (x : Option Peer). member_at x seat.from seat.connect_id) is
 
 -- a seat's name is its member's
-pub has_name : (peers : Slab Peer) (found : Option Seat) (from : Addr) (connect_id : ℕ) → is_held peers found ≡ true → IsSeatOf from connect_id found
+pub has_name : (peers : Slab Peer) (found : Option Seat) (from : Addr) (connect_id : ℕ) → is_seat_held peers found ≡ true → IsSeatOf from connect_id found
     → HasName from connect_id (seated peers found)
 has_name peers None from connect_id held is = absurd is
 has_name peers (Some seat) from connect_id held is =
@@ -71,7 +71,7 @@ name_has peers (Some seat) from connect_id has = here (get peers seat.place) has
   here None has = absurd has
   here (Some p) has = has
 
-pub has_address : (peers : Slab Peer) (found : Option Seat) (seat : Seat) → is_held peers found ≡ true → found ≡ Some seat
+pub has_address : (peers : Slab Peer) (found : Option Seat) (seat : Seat) → is_seat_held peers found ≡ true → found ≡ Some seat
     → HasAddress seat.from (seated peers found)
 has_address peers found seat held e =
     let s : Stands peers seat = stands peers found seat held e in
@@ -84,13 +84,13 @@ address_has peers found seat from e has = here (get peers seat.place) (subst (λ
   here None has = absurd has
   here (Some p) has = has
 
-pub is_live : (peers : Slab Peer) (found : Option Seat) → is_held peers found ≡ true → IsTaken found → IsSome (seated peers found)
+pub is_live : (peers : Slab Peer) (found : Option Seat) → is_seat_held peers found ≡ true → IsTaken found → IsSome (seated peers found)
 is_live peers None held is = is
 is_live peers (Some seat) held is =
     let s : Stands peers seat = stands peers (Some seat) seat held refl in
     subst (λ (x : Option Member). IsSome x) (sym (member_taken peers (Some seat) seat s.peer refl s.is)) refl
 
-pub none_free : (peers : Slab Peer) (found : Option Seat) → is_held peers found ≡ true → seated peers found ≡ None → found ≡ None
+pub none_free : (peers : Slab Peer) (found : Option Seat) → is_seat_held peers found ≡ true → seated peers found ≡ None → found ≡ None
 none_free peers None held none = refl
 none_free peers (Some seat) held none =
     let s : Stands peers seat = stands peers (Some seat) seat held refl in
@@ -104,7 +104,7 @@ free_none peers found e = ap (seated peers) e
 -- ---- seats that stay
 
 held_same : (old new : Slab Peer) (found : Option Seat) → ((seat : Seat) → found ≡ Some seat → get new seat.place ≡ get old seat.place)
-    → is_held new found ≡ is_held old found
+    → is_seat_held new found ≡ is_seat_held old found
 held_same old new None same = refl
 held_same old new (Some seat) same = ap is_some (same seat refl)
 
@@ -137,7 +137,8 @@ abbrev pub taking : ℕ → Addr → ℕ → Option Seat
 taking place from connect_id = Some (record { place = place; from = from; connect_id = connect_id })
 
 -- no seat had a place that was vacant
-vacant_apart : (peers : Slab Peer) (place : ℕ) (found : Option Seat) (seat : Seat) → is_held peers found ≡ true → found ≡ Some seat → get peers place ≡ None
+vacant_apart : (peers : Slab Peer) (place : ℕ) (found : Option Seat) (seat : Seat) → is_seat_held peers found ≡ true → found ≡ Some seat
+    → get peers place ≡ None
     → seat.place ≡ place → ⊥
 vacant_apart peers place found seat held e none same =
     let s : Stands peers seat = stands peers found seat held e in
@@ -170,8 +171,8 @@ comes seats old new key place from connect_id p sound low none up =
     record {
       all = length-set seats key mine ∙ sound.all;
       held = λ k. elim (cases_eq k key) [
-        | inl same ↦ ap (is_held new) (own_seat seats key k mine below same) ∙ ap is_some up.changed
-        | inr apart ↦ ap (is_held new) (other_seat seats key k mine apart) ∙ held_same old new (seat_of seats k) (keeps k) ∙ sound.held k
+        | inl same ↦ ap (is_seat_held new) (own_seat seats key k mine below same) ∙ ap is_some up.changed
+        | inr apart ↦ ap (is_seat_held new) (other_seat seats key k mine apart) ∙ held_same old new (seat_of seats k) (keeps k) ∙ sound.held k
       ];
       apart = λ k other shared. elim (cases_eq k key) [
         | inl same ↦ elim (cases_eq other key) [
@@ -234,8 +235,8 @@ goes seats old new key gone sound at up =
     record {
       all = length-set seats key None ∙ sound.all;
       held = λ k. elim (cases_eq k key) [
-        | inl same ↦ ap (is_held new) (own_seat seats key k None below same)
-        | inr apart ↦ ap (is_held new) (other_seat seats key k None apart)
+        | inl same ↦ ap (is_seat_held new) (own_seat seats key k None below same)
+        | inr apart ↦ ap (is_seat_held new) (other_seat seats key k None apart)
             ∙ held_same old new (seat_of seats k) (others_go seats old new key gone None sound at up k apart) ∙ sound.held k
       ];
       apart = λ k other shared. elim (cases_eq k key) [
@@ -274,7 +275,8 @@ value_some slots place q w some = elim (cases_eq q place) [
   | inr apart ↦ ap is_some (get_or-set_other slots place q (Some w) None apart) ∙ some
 ]
 
-lent_held : (peers : Slab Peer) (place : ℕ) (w : Peer) (found : Option Seat) → is_held peers found ≡ true → is_held (with_value peers place w) found ≡ true
+lent_held : (peers : Slab Peer) (place : ℕ) (w : Peer) (found : Option Seat) → is_seat_held peers found ≡ true
+    → is_seat_held (with_value peers place w) found ≡ true
 lent_held peers place w None held = refl
 lent_held peers place w (Some seat) held = value_some peers.slots place seat.place w held
 

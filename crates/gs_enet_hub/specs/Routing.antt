@@ -6,10 +6,10 @@ use Rattle.gs_enet_wire.specs.declared.command.Command.{Command}
 use Rattle.gs_enet_wire.specs.declared.command.Command.TheVariants as command
 use Rattle.gs_enet_wire.specs.declared.command.Connect.{Connect}
 use Rattle.gs_enet_wire.specs.declared.datagram.Datagram.{Datagram}
-use Rattle.gs_enet_wire.specs.Grammar.{Spells, IsFaultAt}
+use Rattle.gs_enet_wire.specs.Grammar.{SpellsDatagram, IsFaultAt}
 use Rattle.gs_enet.specs.declared.peer.Peer.{Peer}
 use Rattle.gs_enet.specs.Record.{nobody, accepting}
-use Rattle.gs_enet.specs.Standing.{StandsFor}
+use Rattle.gs_enet.specs.Standing.{IsPeerOf}
 use Rattle.gs_enet_hub.specs.declared.route_error.RouteError.{RouteError}
 use Rattle.gs_enet_hub.specs.declared.route_error.RouteError.TheVariants as route_error
 use Rattle.gs_enet_hub.specs.Seating.{Seating, Member, member, SameMembers}
@@ -38,14 +38,14 @@ HasName from connect_id None = ⊥
 HasName from connect_id (Some m) = (m.from ≡ from) × (m.connect_id ≡ connect_id)
 
 -- no live key has that address and connect id
-abbrev pub IsNew : Seating → Addr → ℕ → Type 0
-IsNew s from connect_id = (key : ℕ) → HasName from connect_id (member s key) → ⊥
+abbrev pub IsNewcomer : Seating → Addr → ℕ → Type 0
+IsNewcomer s from connect_id = (key : ℕ) → HasName from connect_id (member s key) → ⊥
 
 abbrev pub IsLive : Seating → ℕ → Type 0
 IsLive s key = IsSome (member s key)
 
-abbrev pub IsFull : Seating → Type 0
-IsFull s = (key : ℕ) → key < most_peers → IsLive s key
+abbrev pub IsHubFull : Seating → Type 0
+IsHubFull s = (key : ℕ) → key < most_peers → IsLive s key
 
 -- the least key that isn't live
 pub record IsLeastFree (s : Seating) (key : ℕ) : Type 0 where
@@ -58,7 +58,7 @@ pub record Joins (c : Connect) (from : Addr) (now key : ℕ) (old new : Seating)
   pub least : IsLeastFree old key
   pub peer : Peer
   pub made : member new key ≡ Some (record { from = from; connect_id = c.connect_id; peer = peer })
-  pub stands : StandsFor peer (accepting key c.peer c.connect_id now)
+  pub stands : IsPeerOf peer (accepting key c.peer c.connect_id now)
   pub others : (k : ℕ) → k ≢ key → member new k ≡ member old k
 
 -- ---- the answers
@@ -67,8 +67,8 @@ pub record Joins (c : Connect) (from : Addr) (now key : ℕ) (old new : Seating)
 abbrev pub RoutesRequest : Connect → Addr → ℕ → Seating → Result ℕ RouteError → Seating → Type 0
 RoutesRequest c from now old (Ok key) new =
     (HasName from c.connect_id (member old key) × SameMembers old new)
-    ⊎ (IsNew old from c.connect_id × Joins c from now key old new)
-RoutesRequest c from now old (Err route_error.HubFull) new = IsNew old from c.connect_id × IsFull old
+    ⊎ (IsNewcomer old from c.connect_id × Joins c from now key old new)
+RoutesRequest c from now old (Err route_error.HubFull) new = IsNewcomer old from c.connect_id × IsHubFull old
     × SameMembers old new
 RoutesRequest c from now old (Err route_error.OutOfMemory) new = SameMembers old new
 RoutesRequest c from now old (Err route_error.NoPeer) new = ⊥
@@ -92,6 +92,6 @@ Routes d from now old answer new = RoutesIf (request_of d) d.peer from now old a
 -- why bytes weren't routed, as far as they themselves say it
 abbrev pub IsRouteFault : List ℕ → RouteError → Type 0
 IsRouteFault bytes (route_error.BadDatagram place) = IsFaultAt bytes place
-IsRouteFault bytes route_error.NoPeer = (d : Datagram) × Spells bytes d
-IsRouteFault bytes route_error.HubFull = (d : Datagram) × Spells bytes d
+IsRouteFault bytes route_error.NoPeer = (d : Datagram) × SpellsDatagram bytes d
+IsRouteFault bytes route_error.HubFull = (d : Datagram) × SpellsDatagram bytes d
 IsRouteFault bytes route_error.OutOfMemory = Unit {0}

@@ -43,9 +43,9 @@ SameMembers old new = (key : ℕ) → member new key ≡ member old key
 
 -- ---- what holds of every hub
 
-abbrev pub is_held : Slab Peer → Option Seat → Bool
-is_held peers None = true
-is_held peers (Some seat) = is_some (get peers seat.place)
+abbrev pub is_seat_held : Slab Peer → Option Seat → Bool
+is_seat_held peers None = true
+is_seat_held peers (Some seat) = is_some (get peers seat.place)
 
 abbrev pub is_shared : Option Seat → Option Seat → Bool
 is_shared None other = false
@@ -55,7 +55,7 @@ is_shared (Some seat) (Some other) = seat.place == other.place
 -- there is a seat for each key; each seat that is taken has its peer, which no other has
 pub record IsSeating (seats : List (Option Seat)) (peers : Slab Peer) : Type 0 where
   pub all : length seats ≡ most_peers
-  pub held : (key : ℕ) → is_held peers (seat_of seats key) ≡ true
+  pub held : (key : ℕ) → is_seat_held peers (seat_of seats key) ≡ true
   pub apart : (key other : ℕ) → is_shared (seat_of seats key) (seat_of seats other) ≡ true → key ≡ other
 
 -- ---- a peer that is lent

@@ -4,7 +4,7 @@ ghost use Rattle.std.specs.Prelude.{ℕ, ◌≡◌, ◌≢◌, ◌≤◌, ◌⊎
 ghost use Rattle.std.specs.Option.{option_copied_mut};
 ghost use Rattle.std.specs.Borrow.{sem};
 ghost use Rattle.gs_enet_wire.specs.declared.datagram.Datagram.{Datagram};
-ghost use Rattle.gs_enet_wire.specs.Grammar.{Spells, IsFaultAt};
+ghost use Rattle.gs_enet_wire.specs.Grammar.{SpellsDatagram, IsFaultAt};
 ghost use Rattle.gs_enet_hub.specs.Routing.{Routes, IsRouteFault, RoutesOther};
 ghost use Rattle.gs_enet_hub.specs.Seating.{seat_of, place_if};
 ghost use Rattle.gs_enet_hub.specs.declared.route_error.RouteError.TheVariants as route_error;
@@ -63,7 +63,7 @@ impl Hub {
     /// from the front, by the grammar of datagrams. `NoPeer` says that the datagram asks for no connection and
     /// is for none, and `HubFull` that it asks for a new one while `MOST_PEERS` live.
     pub fn route(&mut self, from: Addr, datagram: &[u8], now: u32) -> Result<usize, RouteError>
-        ensures routed { (d : Datagram) → Spells datagram.now d → Routes d from now self.old result self.new }
+        ensures routed { (d : Datagram) → SpellsDatagram datagram.now d → Routes d from now self.old result self.new }
         ensures same { OnErr result (SameMembers self.old self.new) }
         ensures bad { IfErr result (IsRouteFault datagram.now) }
         ensures bad_only { (place : ℕ) → IsFaultAt datagram.now place

@@ -1,7 +1,7 @@
 //! New connections.
 
 ghost use Rattle.std.specs.Prelude.{ℕ, ◌≡◌, ◌<◌, None};
-ghost use Rattle.gs_enet_hub.specs.Routing.{RoutesRequest, IsNew, IsLeastFree};
+ghost use Rattle.gs_enet_hub.specs.Routing.{RoutesRequest, IsNewcomer, IsLeastFree};
 
 use crate::seat::{Seat, first_free, seat_of};
 use crate::{Hub, RouteError};
@@ -38,7 +38,7 @@ impl Hub {
         now: u32,
     ) -> Result<usize, RouteError>
         requires free { IsLeastFree self.old key }
-        requires unknown { IsNew self.old from connect.now.connect_id }
+        requires unknown { IsNewcomer self.old from connect.now.connect_id }
         ensures { RoutesRequest connect.now from now self.old result self.new }
     {
         let peer = Peer::accept(*self.seats.allocator(), key as u16, connect, now)?;

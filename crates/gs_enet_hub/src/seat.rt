@@ -1,6 +1,7 @@
 //! The seats of a hub: for each key where its peer stands, and the name of its connection.
 
-ghost use Rattle.std.specs.Prelude.{◌≡◌, ◌<◌, ℕ, None, true, false, IfSome, IfNone, IfOk, length, replicate, slice_index_or};
+ghost use Rattle.std.specs.Prelude.{◌≡◌, ◌<◌, ℕ, None, true, false, IfSome, IfNone, IfOk, length, replicate};
+ghost use Rattle.std.specs.Prelude.{slice_index_or};
 ghost use Rattle.gs_enet_hub.specs.Seats.{most_peers, IsSeatOf, IsTaken};
 
 use crate::limits::MOST_PEERS;

@@ -7,8 +7,9 @@ use Rattle.std.proofs.lemmas.List.{drop_at, append-nil, append_cancel_right}
 use Rattle.byteorder.specs.Numbers.{big_number-reads_back}
 use Rattle.gs_enet_wire.specs.declared.command.Command.{Command}
 use Rattle.gs_enet_wire.specs.declared.datagram.Datagram.{Datagram}
-use Rattle.gs_enet_wire.specs.Grammar.{IsCommand, AreCommands, BeginsNoCommand, after_first, Field, field_bytes, fields_bytes, u16, asking, header_word}
-use Rattle.gs_enet_wire.specs.Grammar.{sent_field, header, HasHeader, most_datagram, Spells, is_compressed, is_timed, header_length, StopsAt, IsFaultAt}
+use Rattle.gs_enet_wire.specs.Grammar.{IsCommand, AreCommands, BeginsNoCommand, after_first, WireField, field_bytes, fields_bytes, u16, asking, header_word}
+use Rattle.gs_enet_wire.specs.Grammar.{sent_field, header, HasHeader, most_on_link, SpellsDatagram, is_compressed, is_timed, datagram_header_length, StopsAt}
+use Rattle.gs_enet_wire.specs.Grammar.{IsFaultAt}
 use Rattle.gs_bytes.specs.Field.{big_from}
 use Rattle.gs_enet_wire.proofs.FieldLemmas.{widths, values, fields_same}
 use Rattle.gs_enet_wire.proofs.OneCommand.{command_same, asking_same}
@@ -96,17 +97,17 @@ body_some t body (c ∷ cs) some p =
 -- what a whole header says
 pub record Headed (bytes body : List ℕ) (d : Datagram) : Type 0 where
   pub timed : is_timed bytes ≡ is_some d.sent
-  pub header_len : header_length bytes ≡ length (fields_bytes (header d))
+  pub header_len : datagram_header_length bytes ≡ length (fields_bytes (header d))
   pub whole : (ltb (length bytes) 2 || is_compressed bytes) ≡ false
-  pub time : ltb (length bytes) (header_length bytes) ≡ false
-  pub len : length bytes ≡ header_length bytes + length body
-  pub body_is : drop (header_length bytes) bytes ≡ body
+  pub time : ltb (length bytes) (datagram_header_length bytes) ≡ false
+  pub len : length bytes ≡ datagram_header_length bytes + length body
+  pub body_is : drop (datagram_header_length bytes) bytes ≡ body
 
 pub headed : (bytes body : List ℕ) (d : Datagram) → HasHeader d → bytes ≡ fields_bytes (header d) ++ body → Headed bytes body d
 headed bytes body d h spelled =
     let word : big_from 0 2 bytes ≡ header_word d = ap (big_from 0 2) spelled ∙ word_is d body h in
     let is_timed_so : is_timed bytes ≡ is_some d.sent = timed_is d (big_from 0 2 bytes) h word in
-    let sized : header_length bytes ≡ length (fields_bytes (header d)) =
+    let sized : datagram_header_length bytes ≡ length (fields_bytes (header d)) =
     ap (λ (b : Bool). cond b 4 2) is_timed_so ∙ sym (length-header (header_word d) d.sent) in
     let long : length bytes ≡ length (fields_bytes (header d)) + length body =
     ap length spelled ∙ length-append (fields_bytes (header d)) body in
@@ -119,20 +120,21 @@ headed bytes body d h spelled =
       whole = rw (enough, plain) refl;
       time = le-ltb _ _ (omega arith);
       len = omega arith;
-      body_is = ap (drop (header_length bytes)) spelled ∙ drop_at (fields_bytes (header d)) body (header_length bytes) (sym sized);
+      body_is = ap (drop (datagram_header_length bytes)) spelled ∙ drop_at (fields_bytes (header d)) body (datagram_header_length bytes) (sym sized);
     }
 
 -- what is in the grammar has no fault
-pub not_both : (bytes : List ℕ) (d : Datagram) (place : ℕ) → Spells bytes d → IsFaultAt bytes place → ⊥
+pub not_both : (bytes : List ℕ) (d : Datagram) (place : ℕ) → SpellsDatagram bytes d → IsFaultAt bytes place → ⊥
 not_both bytes d place s f =
     let h = headed bytes s.body d s.has_header s.spelled in
     let some = body_some (is_some d.sent) s.body d.commands s.some s.commands in
-    let first : ltb most_datagram (length bytes) ≡ false = le-ltb _ _ s.short in
+    let first : ltb most_on_link (length bytes) ≡ false = le-ltb _ _ s.short in
     let second : (ltb (length bytes) 2 || is_compressed bytes) ≡ false = h.whole in
-    let third : ltb (length bytes) (header_length bytes) ≡ false = h.time in
-    let fourth : eqb (length bytes) (header_length bytes) ≡ false = ne_eqb _ _ (omega arith) in
-    let stop : StopsAt (is_timed bytes) (header_length bytes) (drop (header_length bytes) bytes) place = rw (first, second, third, fourth) at f in
-    let at_body : StopsAt (is_some d.sent) (header_length bytes) s.body place = rw (← h.timed, ← h.body_is) stop in
+    let third : ltb (length bytes) (datagram_header_length bytes) ≡ false = h.time in
+    let fourth : eqb (length bytes) (datagram_header_length bytes) ≡ false = ne_eqb _ _ (omega arith) in
+    let stop : StopsAt (is_timed bytes) (datagram_header_length bytes) (drop (datagram_header_length bytes) bytes) place = rw
+    (first, second, third, fourth) at f in
+    let at_body : StopsAt (is_some d.sent) (datagram_header_length bytes) s.body place = rw (← h.timed, ← h.body_is) stop in
     let walked = walk_same (is_some d.sent) d.commands at_body.commands s.body at_body.front [] at_body.rest s.commands at_body.before
     (append-nil s.body ∙ at_body.parts) (none_begins (is_some d.sent)) at_body.none in
     at_body.more (sym walked.2)
@@ -145,15 +147,15 @@ stops_same t start body p q s s' =
 -- a fault is at one place
 pub one_place : (bytes : List ℕ) (p q : ℕ) → IsFaultAt bytes p → IsFaultAt bytes q → p ≡ q
 one_place bytes p q =
-    let fourth : ℕ → Type 0 = λ n. StopsAt (is_timed bytes) (header_length bytes) (drop (header_length bytes) bytes) n in
-    let third : ℕ → Type 0 = λ n. MatchBool (eqb (length bytes) (header_length bytes)) (n ≡ length bytes) (fourth n) in
-    let second : ℕ → Type 0 = λ n. MatchBool (ltb (length bytes) (header_length bytes)) (n ≡ 2) (third n) in
+    let fourth : ℕ → Type 0 = λ n. StopsAt (is_timed bytes) (datagram_header_length bytes) (drop (datagram_header_length bytes) bytes) n in
+    let third : ℕ → Type 0 = λ n. MatchBool (eqb (length bytes) (datagram_header_length bytes)) (n ≡ length bytes) (fourth n) in
+    let second : ℕ → Type 0 = λ n. MatchBool (ltb (length bytes) (datagram_header_length bytes)) (n ≡ 2) (third n) in
     let first : ℕ → Type 0 = λ n. MatchBool (ltb (length bytes) 2 || is_compressed bytes) (n ≡ 0) (second n) in
-    stage_both (ltb most_datagram (length bytes)) most_datagram p q first
+    stage_both (ltb most_on_link (length bytes)) most_on_link p q first
     (stage_both (ltb (length bytes) 2 || is_compressed bytes) 0 p q second
-    (stage_both (ltb (length bytes) (header_length bytes)) 2 p q third
-    (stage_both (eqb (length bytes) (header_length bytes)) (length bytes) p q fourth
-    (stops_same (is_timed bytes) (header_length bytes) (drop (header_length bytes) bytes) p q))))
+    (stage_both (ltb (length bytes) (datagram_header_length bytes)) 2 p q third
+    (stage_both (eqb (length bytes) (datagram_header_length bytes)) (length bytes) p q fourth
+    (stops_same (is_timed bytes) (datagram_header_length bytes) (drop (datagram_header_length bytes) bytes) p q))))
 
 abbrev datagram_of : ℕ → ℕ → Option ℕ → List Command → Datagram
 datagram_of peer session sent commands = record { peer = peer; session = session; sent = sent; commands = commands }
@@ -163,7 +165,7 @@ sent_same None None e f = refl
 sent_same None (Some u) e f = absurd cc
 sent_same (Some t) None e f = absurd cc
 sent_same (Some t) (Some u) e f =
-    let number : t ≡ u = ap (λ (fs : List Field). get_or (values fs) 0 0) f in
+    let number : t ≡ u = ap (λ (fs : List WireField). get_or (values fs) 0 0) f in
     ap (λ (n : ℕ). Some n) number
 
 sent_widths : (o o' : Option ℕ) → is_some o ≡ is_some o' → widths (sent_field o) ≡ widths (sent_field o')
@@ -173,7 +175,7 @@ sent_widths (Some t) None e = absurd cc
 sent_widths (Some t) (Some u) e = refl
 
 -- bytes spell one datagram
-pub one_value : (bytes : List ℕ) (d e : Datagram) → Spells bytes d → Spells bytes e → d ≡ e
+pub one_value : (bytes : List ℕ) (d e : Datagram) → SpellsDatagram bytes d → SpellsDatagram bytes e → d ≡ e
 one_value bytes d e s s' =
     let words : header_word d ≡ header_word e =
     sym (ap (big_from 0 2) s.spelled ∙ word_is d s.body s.has_header) ∙ ap (big_from 0 2) s'.spelled ∙ word_is e s'.body s'.has_header in

@@ -3,31 +3,31 @@ use Rattle.std.proofs.Common.{◌≡◌, ℕ, ◌^◌, ◌<◌, List, [], ◌∷
 use Rattle.std.proofs.lemmas.List.{drop_at}
 use Rattle.byteorder.specs.Endian.{big_from}
 use Rattle.byteorder.specs.Numbers.{big_number-reads_back, length-bytes_high_first}
-use Rattle.gs_enet_wire.specs.Grammar.{Field, field_bytes, fields_bytes, Fit}
+use Rattle.gs_enet_wire.specs.Grammar.{WireField, field_bytes, fields_bytes, Fit}
 
-abbrev pub width : Field → ℕ
+abbrev pub width : WireField → ℕ
 width f = f.0
 
-abbrev pub value : Field → ℕ
+abbrev pub value : WireField → ℕ
 value f = f.1
 
-abbrev pub widths : List Field → List ℕ
+abbrev pub widths : List WireField → List ℕ
 widths fs = map width fs
 
-abbrev pub values : List Field → List ℕ
+abbrev pub values : List WireField → List ℕ
 values fs = map value fs
 
-pub length-field_bytes : (f : Field) → length (field_bytes f) ≡ f.0
+pub length-field_bytes : (f : WireField) → length (field_bytes f) ≡ f.0
 length-field_bytes f = length-bytes_high_first f.0 f.1
 
-abbrev field_of : ℕ → ℕ → Field
+abbrev field_of : ℕ → ℕ → WireField
 field_of w n = (w, n)
 
-pair_same : (f g : Field) → f.0 ≡ g.0 → f.1 ≡ g.1 → f ≡ g
+pair_same : (f g : WireField) → f.0 ≡ g.0 → f.1 ≡ g.1 → f ≡ g
 pair_same f g w n = ap (λ (k : ℕ). field_of k f.1) w ∙ ap (λ (k : ℕ). field_of g.0 k) n
 
 -- two fields of one width that begin one text hold one number
-pub field_same : (f g : Field) (x y : List ℕ) → f.0 ≡ g.0 → f.1 < 256 ^ f.0 → g.1 < 256 ^ g.0
+pub field_same : (f g : WireField) (x y : List ℕ) → f.0 ≡ g.0 → f.1 < 256 ^ f.0 → g.1 < 256 ^ g.0
     → field_bytes f ++ x ≡ field_bytes g ++ y → (f.1 ≡ g.1) × (x ≡ y)
 field_same f g x y wide small small' e =
     let number : f.1 ≡ g.1 = sym (big_number-reads_back f.0 f.1 x small) ∙ ap (big_from 0 f.0) e ∙ ap (λ (n : ℕ). big_from 0 n (field_bytes g ++ y)) wide
@@ -37,7 +37,7 @@ field_same f g x y wide small small' e =
     (number, rest)
 
 -- the same for fields one after the other
-pub fields_same : (fs gs : List Field) (x y : List ℕ) → widths fs ≡ widths gs → Fit fs → Fit gs
+pub fields_same : (fs gs : List WireField) (x y : List ℕ) → widths fs ≡ widths gs → Fit fs → Fit gs
     → fields_bytes fs ++ x ≡ fields_bytes gs ++ y → (fs ≡ gs) × (x ≡ y)
 fields_same [] [] x y wide fit fit' e = (refl, e)
 fields_same [] (g ∷ gs) x y wide fit fit' e = absurd cc

@@ -9,17 +9,18 @@ use Rattle.byteorder.specs.Numbers.{big_number-reads_back}
 use Rattle.gs_bytes.specs.Field.{big_from}
 use Rattle.gs_enet_wire.specs.declared.command.Command.{Command}
 use Rattle.gs_enet_wire.specs.Grammar.{u16, field_bytes, asking, IsCommand, AreCommands, BeginsNoCommand, StopsAt}
-use Rattle.gs_enet_wire.specs.Reading.{Takes, TakesCommand}
+use Rattle.gs_enet_wire.specs.Reading.{TakesFields, TakesCommand}
 use Rattle.gs_enet_wire.specs.ReadingHeader.{TakesTime, TakesHeader, TakesCommands}
 
 -- the number that was taken is the one that the bytes begin with
-pub word_taken : (word : ℕ) (old new : List ℕ) → Takes (u16 word ∷ []) old new → big_from 0 2 old ≡ word
+pub word_taken : (word : ℕ) (old new : List ℕ) → TakesFields (u16 word ∷ []) old new → big_from 0 2 old ≡ word
 word_taken word old new t = ap (big_from 0 2) t.parts ∙ big_number-reads_back 2 word new t.fit.0
 
 pub compressed_bit : (word : ℕ) → bit_and word 16384 ≡ word / 16384 % 2 * 16384
 compressed_bit word = and_pow word 14
 
-pub takes_header : (word : ℕ) (sent : Option ℕ) (old mid new : List ℕ) → Takes (u16 word ∷ []) old mid → bit_and word 16384 ≡ 0 → TakesTime word sent mid new
+pub takes_header : (word : ℕ) (sent : Option ℕ) (old mid new : List ℕ) → TakesFields (u16 word ∷ []) old mid → bit_and word 16384 ≡ 0
+    → TakesTime word sent mid new
     → TakesHeader (record { peer = bit_and word 4095; session = bit_and (word / 4096) 3; sent = sent }) old new
 takes_header word sent old mid new t plain time =
     let low : bit_and word 4095 ≡ word % 4096 = and_mask word 12 in

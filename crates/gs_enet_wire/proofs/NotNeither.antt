@@ -3,14 +3,15 @@ use Rattle.std.proofs.Common.{◌≡◌, ◌≢◌, ℕ, zero, suc, ◌+◌, ◌
 use Rattle.std.proofs.Common.{drop, Option, Some, None, refl, sym, ap, subst, ◌∙◌, append_assoc, arith, length-append}
 use Rattle.std.specs.Prelude.{is_some, MatchBool, ◌||◌}
 use Rattle.std.specs.List.{AllByRecursion}
-use Rattle.std.proofs.lemmas.Bool.{false≢true, ltb-false}
+use Rattle.std.proofs.lemmas.Bool.{false≢true, ltb-false, or_parts}
 use Rattle.std.proofs.lemmas.Bool.Decides.{nat_tests}
 use Rattle.std.proofs.lemmas.List.{append-nil}
 use Rattle.std.proofs.lemmas.Nat.{be_bytes_2}
 use Rattle.gs_bytes.specs.Field.{big_from}
 use Rattle.gs_enet_wire.specs.declared.command.Command.{Command}
 use Rattle.gs_enet_wire.specs.declared.datagram.Datagram.{Datagram}
-use Rattle.gs_enet_wire.specs.Grammar.{u16, field_bytes, fields_bytes, header, HasHeader, most_datagram, Spells, is_compressed, is_timed, header_length}
+use Rattle.gs_enet_wire.specs.Grammar.{u16, field_bytes, fields_bytes, header, HasHeader, most_on_link, SpellsDatagram, is_compressed, is_timed}
+use Rattle.gs_enet_wire.specs.Grammar.{datagram_header_length}
 use Rattle.gs_enet_wire.specs.Grammar.{after_first, AreCommands, StopsAt}
 use Rattle.gs_enet_wire.specs.Laws.{NotNeither}
 use Rattle.gs_enet_wire.proofs.HeaderReaders.{commands_push}
@@ -42,10 +43,10 @@ datagram peer session sent commands = record { peer = peer; session = session; s
 -- the same behind a whole header
 ending : (bytes body : List ℕ) (peer session : ℕ) (sent : Option ℕ) → HasHeader (datagram peer session sent [])
     → bytes ≡ fields_bytes (header (datagram peer session sent [])) ++ body
-    → length bytes ≤ most_datagram → body ≢ [] → ((d : Datagram) → Spells bytes d → ⊥)
-    → ((place : ℕ) → StopsAt (is_some sent) (header_length bytes) body place → ⊥) → ⊥
+    → length bytes ≤ most_on_link → body ≢ [] → ((d : Datagram) → SpellsDatagram bytes d → ⊥)
+    → ((place : ℕ) → StopsAt (is_some sent) (datagram_header_length bytes) body place → ⊥) → ⊥
 ending bytes body peer session sent h parts short some no_value no_stop =
-    walk (length body) (header_length bytes) (is_some sent) [] body [] (omega arith) refl
+    walk (length body) (datagram_header_length bytes) (is_some sent) [] body [] (omega arith) refl
     (λ cs are. no_value (datagram peer session sent cs) (record {
       has_header = record { peer = h.peer; session = h.session; sent = h.sent };
       some = λ e. some (subst (AreCommands (is_some sent) body) e are);
@@ -60,12 +61,6 @@ passed : (b : Bool) (v : ℕ) (Q : ℕ → Type 0) → ((place : ℕ) → MatchB
 passed true v Q none = absurd (none v refl)
 passed false v Q none = (refl, none)
 
-neither_test : (a b : Bool) → (a || b) ≡ false → (a ≡ false) × (b ≡ false)
-neither_test true true e = absurd (false≢true (sym e))
-neither_test true false e = absurd (false≢true (sym e))
-neither_test false true e = absurd (false≢true (sym e))
-neither_test false false e = (refl, refl)
-
 -- two bytes are those of the number in them
 small_at : (a b i : ℕ) → a < 256 → b < 256 → get_or (a ∷ b ∷ []) i 0 < 256
 small_at a b zero sa sb = sa
@@ -77,8 +72,8 @@ two_bytes a b sa sb = be_bytes_2 (a ∷ b ∷ []) (big_from 0 2 (a ∷ b ∷ [])
 
 -- the first two bytes without a sent time behind them
 untimed : (a b : ℕ) (body bytes : List ℕ) → a < 256 → b < 256 → bytes ≡ a ∷ b ∷ body → big_from 0 2 bytes / 16384 % 2 ≡ 0 → big_from 0 2 bytes < 32768
-    → length bytes ≤ most_datagram
-    → body ≢ [] → ((d : Datagram) → Spells bytes d → ⊥) → ((place : ℕ) → StopsAt false (header_length bytes) body place → ⊥) → ⊥
+    → length bytes ≤ most_on_link
+    → body ≢ [] → ((d : Datagram) → SpellsDatagram bytes d → ⊥) → ((place : ℕ) → StopsAt false (datagram_header_length bytes) body place → ⊥) → ⊥
 untimed a b body bytes sa sb is plain low short some no_value no_stop =
     let w : ℕ = big_from 0 2 (a ∷ b ∷ []) in
     let word : big_from 0 2 bytes ≡ w = ap (big_from 0 2) is in
@@ -91,7 +86,8 @@ untimed a b body bytes sa sb is plain low short some no_value no_stop =
 -- and with it
 with_time : (a b c d : ℕ) (body bytes : List ℕ) → a < 256 → b < 256 → c < 256 → d < 256 → bytes ≡ a ∷ b ∷ c ∷ d ∷ body → big_from 0 2 bytes / 16384 % 2 ≡ 0
     → 32768 ≤ big_from 0 2 bytes
-    → length bytes ≤ most_datagram → body ≢ [] → ((d : Datagram) → Spells bytes d → ⊥) → ((place : ℕ) → StopsAt true (header_length bytes) body place → ⊥) → ⊥
+    → length bytes ≤ most_on_link → body ≢ [] → ((d : Datagram) → SpellsDatagram bytes d → ⊥)
+    → ((place : ℕ) → StopsAt true (datagram_header_length bytes) body place → ⊥) → ⊥
 with_time a b c d body bytes sa sb sc sd is plain high short some no_value no_stop =
     let w : ℕ = big_from 0 2 (a ∷ b ∷ []) in
     let t : ℕ = big_from 0 2 (c ∷ d ∷ []) in
@@ -106,10 +102,10 @@ with_time a b c d body bytes sa sb sc sd is plain high short some no_value no_st
     (is ∙ sym (ap (λ (l : List ℕ). l ++ body) both)) short some no_value no_stop
 
 -- the bytes behind the tests of the header
-behind : (bytes : List ℕ) (t : Bool) → AllByRecursion (λ b. b < 256) bytes → is_timed bytes ≡ t → length bytes ≤ most_datagram → ltb (length bytes) 2 ≡ false
+behind : (bytes : List ℕ) (t : Bool) → AllByRecursion (λ b. b < 256) bytes → is_timed bytes ≡ t → length bytes ≤ most_on_link → ltb (length bytes) 2 ≡ false
     → is_compressed bytes ≡ false
-    → ltb (length bytes) (cond t 4 2) ≡ false → eqb (length bytes) (cond t 4 2) ≡ false → ((d : Datagram) → Spells bytes d → ⊥)
-    → ((place : ℕ) → StopsAt t (header_length bytes) (drop (cond t 4 2) bytes) place → ⊥) → ⊥
+    → ltb (length bytes) (cond t 4 2) ≡ false → eqb (length bytes) (cond t 4 2) ≡ false → ((d : Datagram) → SpellsDatagram bytes d → ⊥)
+    → ((place : ℕ) → StopsAt t (datagram_header_length bytes) (drop (cond t 4 2) bytes) place → ⊥) → ⊥
 behind [] t low timed short two plain time some no_value no_stop = absurd (false≢true (sym two))
 behind (a ∷ []) t low timed short two plain time some no_value no_stop = absurd (false≢true (sym two))
 behind (a ∷ b ∷ []) true low timed short two plain time some no_value no_stop = absurd (false≢true (sym time))
@@ -124,9 +120,9 @@ behind (a ∷ b ∷ c ∷ d ∷ e ∷ rest) true low timed short two plain time 
 
 pub neither : NotNeither
 neither bytes low no_value no_fault =
-    let one = passed (ltb most_datagram (length bytes)) most_datagram _ no_fault in
+    let one = passed (ltb most_on_link (length bytes)) most_on_link _ no_fault in
     let two = passed (ltb (length bytes) 2 || is_compressed bytes) 0 _ one.1 in
-    let three = passed (ltb (length bytes) (header_length bytes)) 2 _ two.1 in
-    let four = passed (eqb (length bytes) (header_length bytes)) (length bytes) _ three.1 in
-    let tests = neither_test (ltb (length bytes) 2) (is_compressed bytes) two.0 in
+    let three = passed (ltb (length bytes) (datagram_header_length bytes)) 2 _ two.1 in
+    let four = passed (eqb (length bytes) (datagram_header_length bytes)) (length bytes) _ three.1 in
+    let tests = or_parts (ltb (length bytes) 2) (is_compressed bytes) two.0 in
     behind bytes (is_timed bytes) low refl (ltb-false _ _ one.0) tests.0 tests.1 three.0 four.0 no_value four.1

@@ -3,7 +3,7 @@ use Rattle.std.proofs.Common.{◌≡◌, ℕ, ◌/◌, ◌%◌, Bool, true, fals
 use Rattle.std.proofs.lemmas.List.{take_at, drop_at}
 use Rattle.gs_enet_wire.specs.declared.command.Command.{Command}
 use Rattle.gs_enet_wire.specs.declared.command.Head.{Head}
-use Rattle.gs_enet_wire.specs.Grammar.{head_of, head, kind, fields, payload, all_fields, after_first, asking, IsCommand, fields_bytes}
+use Rattle.gs_enet_wire.specs.Grammar.{head_of, command_head, kind, fields, payload, all_fields, after_first, asking, IsCommand, fields_bytes}
 use Rattle.gs_enet_wire.proofs.FieldLemmas.{widths, values, fields_same}
 use Rattle.gs_enet_wire.proofs.Table.{widths_of, data_length, widths-fields, length-payload, same_from_parts}
 
@@ -32,18 +32,18 @@ command_same t a b c d x y p q e =
     let first : p.first ≡ q.first = cc in
     let others : after_first c ++ x ≡ after_first d ++ y = cc in
     let k : kind c ≡ kind d = sym p.is_first.low ∙ ap (λ (n : ℕ). n % 16) first ∙ q.is_first.low in
-    let bit : asking (head c).asks ≡ asking (head d).asks = sym p.is_first.high ∙ ap (λ (n : ℕ). n / 128) first ∙ q.is_first.high in
-    let asks = asking_same (head c).asks (head d).asks bit in
+    let bit : asking (command_head c).asks ≡ asking (command_head d).asks = sym p.is_first.high ∙ ap (λ (n : ℕ). n / 128) first ∙ q.is_first.high in
+    let asks = asking_same (command_head c).asks (command_head d).asks bit in
     let wide : widths (all_fields c) ≡ widths (all_fields d) = ap (λ (ws : List ℕ). 1 ∷ 2 ∷ ws) (widths-fields c ∙ ap widths_of k ∙ sym (widths-fields d)) in
     let regrouped : fields_bytes (all_fields c) ++ (payload c ++ x) ≡ fields_bytes (all_fields d) ++ (payload d ++ y) =
     sym (append_assoc (fields_bytes (all_fields c)) (payload c) x) ∙ others ∙ append_assoc (fields_bytes (all_fields d)) (payload d) y in
     let both = fields_same (all_fields c) (all_fields d) (payload c ++ x) (payload d ++ y) wide p.fit q.fit regrouped in
     let all_numbers : values (all_fields c) ≡ values (all_fields d) = ap values both.0 in
-    let channel : (head c).channel ≡ (head d).channel = cc in
-    let number : (head c).number ≡ (head d).number = cc in
+    let channel : (command_head c).channel ≡ (command_head d).channel = cc in
+    let number : (command_head c).number ≡ (command_head d).number = cc in
     let numbers : values (fields c) ≡ values (fields d) = cc in
     let len : length (payload c) ≡ length (payload d) =
     length-payload c ∙ ap (λ (n : ℕ). data_length n (values (fields c))) k ∙ ap (data_length (kind d)) numbers ∙ sym (length-payload d) in
     let both_data = fronts_same (payload c) (payload d) x y len both.1 in
-    let heads : head c ≡ head d = head_same (head c) (head d) channel number asks in
+    let heads : command_head c ≡ command_head d = head_same (command_head c) (command_head d) channel number asks in
     (same_from_parts c d k heads numbers both_data.0, both_data.1)

@@ -4,7 +4,7 @@ use Rattle.std.specs.Prelude.{◌==◌, if◌then◌else◌}
 use Rattle.gs_enet_wire.specs.declared.command.Command.{Command}
 use Rattle.gs_enet_wire.specs.declared.command.Command.TheVariants as command
 use Rattle.gs_enet_wire.specs.declared.command.Head.{Head}
-use Rattle.gs_enet_wire.specs.Grammar.{head, kind, fields, payload}
+use Rattle.gs_enet_wire.specs.Grammar.{command_head, kind, fields, payload}
 use Rattle.gs_enet_wire.proofs.FieldLemmas.{widths, values}
 
 -- the widths of a kind's fields
@@ -107,7 +107,7 @@ length-payload (command.Bandwidth _ _ _ _ _) = refl
 length-payload (command.Throttle _ _ _ _ _ _) = refl
 length-payload (command.UnreliableFragment _ _ _ _ _ _ _ _ _) = refl
 
-pub built_again : (c : Command) → built (kind c) (head c) (values (fields c)) (payload c) ≡ c
+pub built_again : (c : Command) → built (kind c) (command_head c) (values (fields c)) (payload c) ≡ c
 built_again (command.Acknowledge _ _ _ _ _) = refl
 built_again (command.Connect c) = refl
 built_again (command.VerifyConnect _ _ _ _ _ _ _ _ _ _ _ _ _ _ _) = refl
@@ -122,7 +122,8 @@ built_again (command.Throttle _ _ _ _ _ _) = refl
 built_again (command.UnreliableFragment _ _ _ _ _ _ _ _ _) = refl
 
 -- a command is its parts
-pub same_from_parts : (c d : Command) → kind c ≡ kind d → head c ≡ head d → values (fields c) ≡ values (fields d) → payload c ≡ payload d → c ≡ d
+pub same_from_parts : (c d : Command) → kind c ≡ kind d → command_head c ≡ command_head d → values (fields c) ≡ values (fields d) → payload c ≡ payload d
+    → c ≡ d
 same_from_parts c d k h v p =
     let one = built_again c in
     let other = built_again d in

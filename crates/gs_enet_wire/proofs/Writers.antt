@@ -7,13 +7,14 @@ use Rattle.gs_enet_wire.specs.declared.datagram.Datagram.{Datagram}
 use Rattle.gs_enet_wire.proofs.Datagrams.{one_value}
 use Rattle.std.proofs.lemmas.Grind.{flat_map-append}
 use Rattle.std.proofs.lemmas.List.{take_more, take-append-drop, append-nil, drop-drop, take_at, drop_at, length-take-le}
-use Rattle.gs_enet_wire.specs.Grammar.{header, AreCommands, IsWritable, Spells, spelling, Field, u8, u16, field_bytes, fields_bytes, Fit, kind, head, fields}
+use Rattle.gs_enet_wire.specs.Grammar.{header, AreCommands, IsWritable, SpellsDatagram, spelling, WireField, u8, u16, field_bytes, fields_bytes, Fit, kind}
+use Rattle.gs_enet_wire.specs.Grammar.{command_head, fields}
 use Rattle.gs_enet_wire.specs.Grammar.{payload, all_fields, after_first, asking, IsFirst, IsCommand, command_spelling}
 use Rattle.gs_enet_wire.specs.declared.command.Command.{Command}
 use Rattle.gs_enet_wire.specs.declared.command.Command.TheVariants as command
-use Rattle.gs_enet_wire.specs.Writing.{Puts, PutsFields}
+use Rattle.gs_enet_wire.specs.Writing.{PutsText, PutsFields}
 
-pub puts_then : {x y : List ℕ} {p q r : ℕ} {a b c : List ℕ} → Puts x p q a b → Puts y q r b c → Puts (x ++ y) p r a c
+pub puts_then : {x y : List ℕ} {p q r : ℕ} {a b c : List ℕ} → PutsText x p q a b → PutsText y q r b c → PutsText (x ++ y) p r a c
 puts_then {x} {y} {p} {q} {r} {a} {b} {c} h k =
     let len = length-append x y in
     let ends : r ≡ q + length y = k.ends in
@@ -24,24 +25,24 @@ puts_then {x} {y} {p} {q} {r} {a} {b} {c} h k =
       rest = k.rest ∙ skip b ∙ ap (drop (length y)) h.rest ∙ sym (skip a);
     }
 
-fields_bytes-append : (fs gs : List Field) → fields_bytes (fs ++ gs) ≡ fields_bytes fs ++ fields_bytes gs
+fields_bytes-append : (fs gs : List WireField) → fields_bytes (fs ++ gs) ≡ fields_bytes fs ++ fields_bytes gs
 fields_bytes-append [] gs = refl
 fields_bytes-append (f ∷ fs) gs =
     ap (λ (l : List ℕ). field_bytes f ++ l) (fields_bytes-append fs gs) ∙ sym (append_assoc (field_bytes f) (fields_bytes fs) (fields_bytes gs))
 
-Fit-append : (fs gs : List Field) → Fit fs → Fit gs → Fit (fs ++ gs)
+Fit-append : (fs gs : List WireField) → Fit fs → Fit gs → Fit (fs ++ gs)
 Fit-append [] gs fit fit' = fit'
 Fit-append (f ∷ fs) gs fit fit' = (fit.0, Fit-append fs gs fit.1 fit')
 
 -- fields, and then further ones
-pub fields_then : {fs gs : List Field} {p q r : ℕ} {a b c : List ℕ} → PutsFields fs p q a b → PutsFields gs q r b c → PutsFields (fs ++ gs) p r a c
+pub fields_then : {fs gs : List WireField} {p q r : ℕ} {a b c : List ℕ} → PutsFields fs p q a b → PutsFields gs q r b c → PutsFields (fs ++ gs) p r a c
 fields_then {fs} {gs} {p} {q} {r} {a} {b} {c} h k =
-    let both : Puts (fields_bytes fs ++ fields_bytes gs) p r a c = puts_then h.puts k.puts in
-    record { puts = subst (λ (l : List ℕ). Puts l p r a c) (sym (fields_bytes-append fs gs)) both; fit = Fit-append fs gs h.fit k.fit }
+    let both : PutsText (fields_bytes fs ++ fields_bytes gs) p r a c = puts_then h.puts k.puts in
+    record { puts = subst (λ (l : List ℕ). PutsText l p r a c) (sym (fields_bytes-append fs gs)) both; fit = Fit-append fs gs h.fit k.fit }
 
 -- text that was written in its place
 pub puts_text : (text : List ℕ) (p : ℕ) (old new : List ℕ) → new ≡ take p old ++ text ++ drop (p + length text) old → p + length text ≤ length old
-    → Puts text p (p + length text) old new
+    → PutsText text p (p + length text) old new
 puts_text text p old new e room =
     let len : length (take p old) ≡ p = length-take-le p old (omega arith) in
     let len' : length (take p old ++ text) ≡ p + length text = omega (arith, length-append (take p old) text) in
@@ -71,15 +72,15 @@ first_by : (k : ℕ) (b : Bool) → k < 16 → (k + 128 * asking b < 256) × ((k
 first_by k true small = (omega arith, omega arith, omega arith)
 first_by k false small = (omega arith, omega arith, omega arith)
 
-first_is : (c : Command) → IsFirst (kind c + 128 * asking (head c).asks) c
+first_is : (c : Command) → IsFirst (kind c + 128 * asking (command_head c).asks) c
 first_is c =
-    let h = first_by (kind c) (head c).asks (kind_small c) in
+    let h = first_by (kind c) (command_head c).asks (kind_small c) in
     record { small = h.0; low = h.1; high = h.2 }
 
 -- a command's spelling is that command, in a timed datagram
 pub spelling_is : (c : Command) → Fit (all_fields c) → IsCommand true (command_spelling c) c
 spelling_is c fit = record {
-  first = kind c + 128 * asking (head c).asks;
+  first = kind c + 128 * asking (command_head c).asks;
   is_first = first_is c;
   spelled = refl;
   fit = fit;
@@ -88,17 +89,17 @@ spelling_is c fit = record {
 
 -- a command's parts, one behind the other
 pub puts_command : (c : Command) (first channel number : ℕ) (text : List ℕ) {p q r s t u : ℕ} {a b d e f g : List ℕ}
-    → first ≡ kind c + 128 * asking (head c).asks → channel ≡ (head c).channel → number ≡ (head c).number → text ≡ payload c
+    → first ≡ kind c + 128 * asking (command_head c).asks → channel ≡ (command_head c).channel → number ≡ (command_head c).number → text ≡ payload c
     → PutsFields (u8 first ∷ []) p q a b → PutsFields (u8 channel ∷ []) q r b d → PutsFields (u16 number ∷ []) r s d e → PutsFields (fields c) s t e f
-    → Puts text t u f g
-    → Puts (command_spelling c) p u a g
+    → PutsText text t u f g
+    → PutsText (command_spelling c) p u a g
 puts_command c first channel number text {p} {q} {r} {s} {t} {u} {a} {b} {d} {e} {f} {g} is is2 is3 is4 h1 h2 h3 h4 h5 =
     let begun : PutsFields (u8 channel ∷ u16 number ∷ fields c) q t b f = fields_then h2 (fields_then h3 h4) in
-    let rest : Puts (fields_bytes (u8 channel ∷ u16 number ∷ fields c) ++ text) q u b g = puts_then begun.puts h5 in
-    let named : Puts (after_first c) q u b g = rw (← is2, ← is3, ← is4) rest in
+    let rest : PutsText (fields_bytes (u8 channel ∷ u16 number ∷ fields c) ++ text) q u b g = puts_then begun.puts h5 in
+    let named : PutsText (after_first c) q u b g = rw (← is2, ← is3, ← is4) rest in
     let small : first < 256 = h1.fit.0 in
-    let byte : first % 256 ≡ kind c + 128 * asking (head c).asks = omega arith in
-    let begins : Puts ((kind c + 128 * asking (head c).asks) ∷ []) p q a b = subst (λ (n : ℕ). Puts (n ∷ []) p q a b) byte h1.puts in
+    let byte : first % 256 ≡ kind c + 128 * asking (command_head c).asks = omega arith in
+    let begins : PutsText ((kind c + 128 * asking (command_head c).asks) ∷ []) p q a b = subst (λ (n : ℕ). PutsText (n ∷ []) p q a b) byte h1.puts in
     puts_then begins named
 
 -- ---- a list of commands
@@ -129,9 +130,9 @@ spellings_more cs i c lt is =
     ∙ ap (λ (l : List ℕ). spellings (take i cs) ++ l) (append-nil (command_spelling c))
 
 -- what was put from the start on, and what is behind it
-pub put_whole : {x y : List ℕ} {q r : ℕ} {a b c : List ℕ} → Puts x 0 q a b → Puts y q r b c → c ≡ x ++ y ++ drop r a
+pub put_whole : {x y : List ℕ} {q r : ℕ} {a b c : List ℕ} → PutsText x 0 q a b → PutsText y q r b c → c ≡ x ++ y ++ drop r a
 put_whole {x} {y} {q} {r} {a} {b} {c} h k =
-    let both : Puts (x ++ y) 0 r a c = puts_then h k in
+    let both : PutsText (x ++ y) 0 r a c = puts_then h k in
     sym (take-append-drop r c) ∙ ap (λ (l : List ℕ). l ++ drop r c) both.front ∙ ap (λ (l : List ℕ). x ++ y ++ l) both.rest
 
 -- all spellings are those commands
@@ -140,7 +141,7 @@ spellings_are [] fit = refl
 spellings_are (c ∷ cs) fit = (command_spelling c, spellings cs, refl, spelling_is c fit.0, spellings_are cs fit.1)
 
 -- what was written is read again
-pub spelling_again : (d : Datagram) → IsWritable d → Spells (spelling d) d
+pub spelling_again : (d : Datagram) → IsWritable d → SpellsDatagram (spelling d) d
 spelling_again d w =
     let timed : is_some d.sent ≡ true = w.timed in
     record {
@@ -154,7 +155,7 @@ spelling_again d w =
 
 pub spelling_same : (d e : Datagram) → IsWritable d → IsWritable e → spelling d ≡ spelling e → d ≡ e
 spelling_same d e w w' same =
-    let other : Spells (spelling d) e = rw same (spelling_again e w') in
+    let other : SpellsDatagram (spelling d) e = rw same (spelling_again e w') in
     one_value (spelling d) d e (spelling_again d w) other
 
 -- a datagram's spelling is as long as any bytes that spell it
@@ -166,7 +167,7 @@ spellings_length t bytes (c ∷ cs) p =
     let whole : length bytes ≡ length (p.0 ++ p.1) = ap length p.2 in
     omega (arith, length-append (command_spelling c) (spellings cs), length-append p.0 p.1)
 
-pub same_length : (bytes : List ℕ) (d : Datagram) → Spells bytes d → length (spelling d) ≡ length bytes
+pub same_length : (bytes : List ℕ) (d : Datagram) → SpellsDatagram bytes d → length (spelling d) ≡ length bytes
 same_length bytes d s =
     let later = spellings_length (is_some d.sent) s.body d.commands s.commands in
     let whole : length bytes ≡ length (fields_bytes (header d) ++ s.body) = ap length s.spelled in

@@ -4,7 +4,7 @@ use Rattle.std.specs.Prelude.{MatchBool, nat_lt, nat_le, ◌==◌, List, [], ◌
 use Rattle.std.specs.Prelude.{is_some, IsSome}
 use Rattle.std.specs.List.{flat_map, AllByRecursion}
 use Rattle.gs_bytes.specs.Field.{big_bytes, big_from}
-use Rattle.gs_enet_wire.specs.declared.limits.TheConstants.{MOST_DATAGRAM}
+pub use Rattle.gs_bytes.specs.Limits.{most_on_link}
 use Rattle.gs_enet_wire.specs.declared.command.Command.{Command}
 use Rattle.gs_enet_wire.specs.declared.command.Command.TheVariants as command
 use Rattle.gs_enet_wire.specs.declared.command.Connect.{Connect}
@@ -18,28 +18,28 @@ use Rattle.gs_enet_wire.specs.declared.error.WireError.TheVariants.{BadDatagram,
 -- ---- fields
 
 -- a field: how many bytes it takes, and the number in it
-abbrev pub Field : Type 0
-Field = ℕ × ℕ
+abbrev pub WireField : Type 0
+WireField = ℕ × ℕ
 
-abbrev pub u8 : ℕ → Field
+abbrev pub u8 : ℕ → WireField
 u8 n = (1, n)
 
-abbrev pub u16 : ℕ → Field
+abbrev pub u16 : ℕ → WireField
 u16 n = (2, n)
 
-abbrev pub u32 : ℕ → Field
+abbrev pub u32 : ℕ → WireField
 u32 n = (4, n)
 
 -- a field's bytes, the highest first
-abbrev pub field_bytes : Field → List ℕ
+abbrev pub field_bytes : WireField → List ℕ
 field_bytes f = big_bytes f.0 f.1
 
 -- the bytes of fields that stand one after the other
-abbrev pub fields_bytes : List Field → List ℕ
+abbrev pub fields_bytes : List WireField → List ℕ
 fields_bytes fs = flat_map field_bytes fs
 
 -- each number fits its field
-abbrev pub Fit : List Field → Type 0
+abbrev pub Fit : List WireField → Type 0
 Fit fs = AllByRecursion (λ f. f.1 < 256 ^ f.0) fs
 
 -- ---- commands
@@ -48,20 +48,21 @@ Fit fs = AllByRecursion (λ f. f.1 < 256 ^ f.0) fs
 abbrev pub head_of : ℕ → ℕ → Bool → Head
 head_of channel number asks = record { channel = channel; number = number; asks = asks }
 
-abbrev pub head : Command → Head
-head (command.Acknowledge channel number asks received received_sent) = head_of channel number asks
-head (command.Connect c) = head_of c.channel c.number c.asks
-head (command.VerifyConnect channel number asks peer incoming outgoing mtu window channels incoming_bandwidth
+abbrev pub command_head : Command → Head
+command_head (command.Acknowledge channel number asks received received_sent) = head_of channel number asks
+command_head (command.Connect c) = head_of c.channel c.number c.asks
+command_head (command.VerifyConnect channel number asks peer incoming outgoing mtu window channels incoming_bandwidth
     outgoing_bandwidth throttle_interval acceleration deceleration connect_id) = head_of channel number asks
-head (command.Disconnect channel number asks extra) = head_of channel number asks
-head (command.Ping channel number asks) = head_of channel number asks
-head (command.Reliable channel number asks bytes) = head_of channel number asks
-head (command.Unreliable channel number asks unreliable bytes) = head_of channel number asks
-head (command.Fragment channel number asks start count fragment total offset bytes) = head_of channel number asks
-head (command.Unsequenced channel number asks group bytes) = head_of channel number asks
-head (command.Bandwidth channel number asks incoming outgoing) = head_of channel number asks
-head (command.Throttle channel number asks interval acceleration deceleration) = head_of channel number asks
-head (command.UnreliableFragment channel number asks start count fragment total offset bytes) =
+command_head (command.Disconnect channel number asks extra) = head_of channel number asks
+command_head (command.Ping channel number asks) = head_of channel number asks
+command_head (command.Reliable channel number asks bytes) = head_of channel number asks
+command_head (command.Unreliable channel number asks unreliable bytes) = head_of channel number asks
+command_head (command.Fragment channel number asks start count fragment total offset bytes) =
+    head_of channel number asks
+command_head (command.Unsequenced channel number asks group bytes) = head_of channel number asks
+command_head (command.Bandwidth channel number asks incoming outgoing) = head_of channel number asks
+command_head (command.Throttle channel number asks interval acceleration deceleration) = head_of channel number asks
+command_head (command.UnreliableFragment channel number asks start count fragment total offset bytes) =
     head_of channel number asks
 
 -- which command it is
@@ -81,18 +82,18 @@ kind (command.Throttle channel number asks interval acceleration deceleration) =
 kind (command.UnreliableFragment channel number asks start count fragment total offset bytes) = 12
 
 -- the fields that a connect and its answer have in common
-abbrev pub shared_fields : Connect → List Field
+abbrev pub shared_fields : Connect → List WireField
 shared_fields c =
     u16 c.peer ∷ u8 c.incoming ∷ u8 c.outgoing ∷ u32 c.mtu ∷ u32 c.window ∷ u32 c.channels
     ∷ u32 c.incoming_bandwidth ∷ u32 c.outgoing_bandwidth
     ∷ u32 c.throttle_interval ∷ u32 c.acceleration ∷ u32 c.deceleration ∷ u32 c.connect_id ∷ []
 
 -- the fields of a fragment, be its message reliable or not
-abbrev pub piece_fields : Piece → List Field
+abbrev pub piece_fields : Piece → List WireField
 piece_fields p = u16 p.start ∷ u16 p.length ∷ u32 p.count ∷ u32 p.fragment ∷ u32 p.total ∷ u32 p.offset ∷ []
 
 -- the fields behind the head; where a command has data, one of them is its length
-abbrev pub fields : Command → List Field
+abbrev pub fields : Command → List WireField
 fields (command.Acknowledge channel number asks received received_sent) = u16 received ∷ u16 received_sent ∷ []
 fields (command.Connect c) = shared_fields c ++ u32 c.extra ∷ []
 fields (command.VerifyConnect channel number asks peer incoming outgoing mtu window channels incoming_bandwidth
@@ -152,8 +153,8 @@ payload (command.UnreliableFragment channel number asks start count fragment tot
 payload _ = []
 
 -- the fields behind a command's first byte
-abbrev pub all_fields : Command → List Field
-all_fields c = u8 (head c).channel ∷ u16 (head c).number ∷ fields c
+abbrev pub all_fields : Command → List WireField
+all_fields c = u8 (command_head c).channel ∷ u16 (command_head c).number ∷ fields c
 
 -- a command without its first byte
 abbrev pub after_first : Command → List ℕ
@@ -169,7 +170,7 @@ asking false = 0
 pub record IsFirst (byte : ℕ) (c : Command) : Type 0 where
   pub small : byte < 256
   pub low : byte % 16 ≡ kind c
-  pub high : byte / 128 ≡ asking (head c).asks
+  pub high : byte / 128 ≡ asking (command_head c).asks
 
 -- The bytes are that command, in a datagram that is timed, which is one with a sent time, or isn't. Only in a timed one
 -- may a command ask for an acknowledgement, since that names the time.
@@ -178,7 +179,7 @@ pub record IsCommand (timed : Bool) (bytes : List ℕ) (c : Command) : Type 0 wh
   pub is_first : IsFirst first c
   pub spelled : bytes ≡ first ∷ after_first c
   pub fit : Fit (all_fields c)
-  pub answerable : (head c).asks ≡ true → timed ≡ true
+  pub answerable : (command_head c).asks ≡ true → timed ≡ true
 
 -- the bytes are these commands, one after the other
 abbrev pub AreCommands : Bool → List ℕ → List Command → Type 0
@@ -199,11 +200,11 @@ BeginsNoCommand timed bytes =
 abbrev pub header_word : Datagram → ℕ
 header_word d = d.peer + 4096 * d.session + 32768 * asking (is_some d.sent)
 
-abbrev pub sent_field : Option ℕ → List Field
+abbrev pub sent_field : Option ℕ → List WireField
 sent_field None = []
 sent_field (Some time) = u16 time ∷ []
 
-abbrev pub header : Datagram → List Field
+abbrev pub header : Datagram → List WireField
 header d = u16 (header_word d) ∷ sent_field d.sent
 
 -- the datagram of that header and those commands
@@ -216,15 +217,11 @@ pub record HasHeader (d : Datagram) : Type 0 where
   pub session : d.session < 4
   pub sent : Fit (sent_field d.sent)
 
--- the most bytes of a datagram, the protocol's greatest MTU
-abbrev pub most_datagram : ℕ
-most_datagram = MOST_DATAGRAM
-
--- the bytes spell that datagram
-pub record Spells (bytes : List ℕ) (d : Datagram) : Type 0 where
+-- the bytes spell that datagram; the most on a link is the protocol's greatest MTU
+pub record SpellsDatagram (bytes : List ℕ) (d : Datagram) : Type 0 where
   pub has_header : HasHeader d
   pub some : d.commands ≢ []
-  pub short : length bytes ≤ most_datagram
+  pub short : length bytes ≤ most_on_link
   pub body : List ℕ
   pub spelled : bytes ≡ fields_bytes (header d) ++ body
   pub commands : AreCommands (is_some d.sent) body d.commands
@@ -238,8 +235,8 @@ is_compressed bytes = big_from 0 2 bytes / 16384 % 2 == 1
 abbrev pub is_timed : List ℕ → Bool
 is_timed bytes = nat_le 32768 (big_from 0 2 bytes)
 
-abbrev pub header_length : List ℕ → ℕ
-header_length bytes = if is_timed bytes then 4 else 2
+abbrev pub datagram_header_length : List ℕ → ℕ
+datagram_header_length bytes = if is_timed bytes then 4 else 2
 
 -- Where reading stops in the bytes behind a header of that length: commands stand at the front, and what is left of the
 -- bytes doesn't begin with one.
@@ -257,11 +254,11 @@ pub record StopsAt (timed : Bool) (start : ℕ) (bytes : List ℕ) (place : ℕ)
 -- compressed one; no whole sent time; no command; a command at fault.
 abbrev pub IsFaultAt : List ℕ → ℕ → Type 0
 IsFaultAt bytes place =
-    MatchBool (nat_lt most_datagram (length bytes)) (place ≡ most_datagram)
+    MatchBool (nat_lt most_on_link (length bytes)) (place ≡ most_on_link)
     (MatchBool (nat_lt (length bytes) 2 || is_compressed bytes) (place ≡ 0)
-    (MatchBool (nat_lt (length bytes) (header_length bytes)) (place ≡ 2)
-    (MatchBool (length bytes == header_length bytes) (place ≡ length bytes)
-    (StopsAt (is_timed bytes) (header_length bytes) (drop (header_length bytes) bytes) place))))
+    (MatchBool (nat_lt (length bytes) (datagram_header_length bytes)) (place ≡ 2)
+    (MatchBool (length bytes == datagram_header_length bytes) (place ≡ length bytes)
+    (StopsAt (is_timed bytes) (datagram_header_length bytes) (drop (datagram_header_length bytes) bytes) place))))
 
 abbrev pub IsFault : List ℕ → WireError → Type 0
 IsFault bytes (BadDatagram place) = IsFaultAt bytes place
@@ -270,7 +267,7 @@ IsFault bytes OutOfMemory = Unit {0}
 -- ---- the one spelling in which each ignored bit is 0
 
 abbrev pub command_spelling : Command → List ℕ
-command_spelling c = (kind c + 128 * asking (head c).asks) ∷ after_first c
+command_spelling c = (kind c + 128 * asking (command_head c).asks) ∷ after_first c
 
 abbrev pub spelling : Datagram → List ℕ
 spelling d = fields_bytes (header d) ++ flat_map command_spelling d.commands
@@ -282,5 +279,5 @@ pub record IsWritable (d : Datagram) : Type 0 where
   pub timed : IsSome d.sent
   pub sent : Fit (sent_field d.sent)
   pub some : d.commands ≢ []
-  pub short : length (spelling d) ≤ most_datagram
+  pub short : length (spelling d) ≤ most_on_link
   pub fit : AllByRecursion (λ c. Fit (all_fields c)) d.commands

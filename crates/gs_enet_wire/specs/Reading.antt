@@ -2,11 +2,12 @@
 use Rattle.std.specs.Prelude.{◌≡◌, ℕ, ◌/◌, ◌%◌, ◌<◌, List, [], ◌∷◌, ◌++◌, Bool}
 use Rattle.gs_enet_wire.specs.declared.command.Command.{Command}
 use Rattle.gs_enet_wire.specs.declared.command.Head.{Head}
-use Rattle.gs_enet_wire.specs.Grammar.{Field, u8, u16, fields_bytes, Fit, head, kind, fields, payload, asking}
+use Rattle.gs_enet_wire.specs.Grammar.{WireField, u8, u16, fields_bytes, Fit, command_head, kind, fields, payload}
+use Rattle.gs_enet_wire.specs.Grammar.{asking}
 use Rattle.gs_enet_wire.specs.Grammar.{IsCommand}
 
 -- the old bytes are those fields and then the new bytes
-pub record Takes (fs : List Field) (old new : List ℕ) : Type 0 where
+pub record TakesFields (fs : List WireField) (old new : List ℕ) : Type 0 where
   pub parts : old ≡ fields_bytes fs ++ new
   pub fit : Fit fs
 
@@ -26,7 +27,7 @@ body c = fields_bytes (fields c) ++ payload c
 -- the old bytes are the body of a command of that kind and head, and then the new bytes
 pub record TakesBody (k : ℕ) (h : Head) (c : Command) (old new : List ℕ) : Type 0 where
   pub is_kind : kind c ≡ k
-  pub is_head : head c ≡ h
+  pub is_head : command_head c ≡ h
   pub parts : old ≡ body c ++ new
   pub fit : Fit (fields c)
 

@@ -1,7 +1,7 @@
 //! The commands of a datagram.
 
 ghost use Rattle.std.specs.Prelude.{◌≡◌, ◌+◌, length};
-ghost use Rattle.gs_enet_wire.specs.Grammar.{command_spelling, fields, fields_bytes, head, kind, payload};
+ghost use Rattle.gs_enet_wire.specs.Grammar.{command_spelling, fields, fields_bytes, command_head, kind, payload};
 
 use gs_bytes::Text;
 
@@ -241,7 +241,7 @@ impl Command {
 
     /// What each command begins with.
     pub(crate) fn head(&self) -> Head
-        ensures { result ≡ head self.now }
+        ensures { result ≡ command_head self.now }
     {
         head_of!(
             self,
@@ -261,21 +261,21 @@ impl Command {
 
     /// The channel (`channelID`).
     pub fn channel(&self) -> u8
-        ensures { result ≡ (head self.now).channel }
+        ensures { result ≡ (command_head self.now).channel }
     {
         self.head().channel
     }
 
     /// The reliable sequence number (`reliableSequenceNumber`).
     pub fn number(&self) -> u16
-        ensures { result ≡ (head self.now).number }
+        ensures { result ≡ (command_head self.now).number }
     {
         self.head().number
     }
 
     /// Whether the command asks for an acknowledgement.
     pub fn asks(&self) -> bool
-        ensures { result ≡ (head self.now).asks }
+        ensures { result ≡ (command_head self.now).asks }
     {
         self.head().asks
     }

@@ -2,7 +2,7 @@
 
 ghost use Rattle.std.specs.Prelude.{◌≡◌, ◌==◌, ◌<◌, ◌+◌, ◌++◌, [], ◌∷◌, length, IfOk, OnOk, OnErr, IsErrOf};
 ghost use Rattle.gs_enet_wire.specs.Grammar.{u8, u16, u32, field_bytes};
-ghost use Rattle.gs_enet_wire.specs.Reading.{Takes};
+ghost use Rattle.gs_enet_wire.specs.Reading.{TakesFields};
 
 use gs_bytes::{OutOfMemory, Text, read_u16_be, read_u32_be};
 use std::alloc::Global;
@@ -94,7 +94,7 @@ impl<'a> Cursor<'a> {
     }
 
     pub fn u8(&mut self) -> Result<u8, ReadError>
-        ensures taken { IfOk result (λ n. Takes (u8 n ∷ []) self.old self.new) }
+        ensures taken { IfOk result (λ n. TakesFields (u8 n ∷ []) self.old self.new) }
         ensures count { OnOk result (length self.old ≡ length self.new + 1) }
         ensures cut { OnErr result (length self.old < 1) }
     {
@@ -103,7 +103,7 @@ impl<'a> Cursor<'a> {
     }
 
     pub fn u16(&mut self) -> Result<u16, ReadError>
-        ensures taken { IfOk result (λ n. Takes (u16 n ∷ []) self.old self.new) }
+        ensures taken { IfOk result (λ n. TakesFields (u16 n ∷ []) self.old self.new) }
         ensures count { OnOk result (length self.old ≡ length self.new + 2) }
         ensures cut { OnErr result (length self.old < 2) }
     {
@@ -112,7 +112,7 @@ impl<'a> Cursor<'a> {
     }
 
     pub fn u32(&mut self) -> Result<u32, ReadError>
-        ensures taken { IfOk result (λ n. Takes (u32 n ∷ []) self.old self.new) }
+        ensures taken { IfOk result (λ n. TakesFields (u32 n ∷ []) self.old self.new) }
         ensures count { OnOk result (length self.old ≡ length self.new + 4) }
         ensures cut { OnErr result (length self.old < 4) }
     {

@@ -2,7 +2,7 @@
 
 ghost use Rattle.std.specs.Prelude.{◌+◌, ◌<◌, ◌≤◌, [], ◌∷◌, true, length};
 ghost use Rattle.gs_enet_wire.specs.Grammar.{u16, payload, all_fields, Fit, command_spelling};
-ghost use Rattle.gs_enet_wire.specs.Writing.{Puts, PutsFields};
+ghost use Rattle.gs_enet_wire.specs.Writing.{PutsText, PutsFields};
 
 use crate::Command;
 use crate::command::{ASKS, RELIABLE};
@@ -25,7 +25,7 @@ pub fn write_header(out: &mut [u8], peer: u16, sent: u16) -> usize
 pub fn write_command(out: &mut [u8], place: usize, command: &Command) -> usize
     requires short { length (payload command.now) < 65536 }
     requires room { place + length (command_spelling command.now) ≤ length out.old }
-    ensures put { Puts (command_spelling command.now) place result out.old out.new }
+    ensures put { PutsText (command_spelling command.now) place result out.old out.new }
     ensures fit { Fit (all_fields command.now) }
 {
     put_command(out, place, command)
@@ -36,7 +36,8 @@ pub fn write_command(out: &mut [u8], place: usize, command: &Command) -> usize
 pub fn write_reliable(out: &mut [u8], place: usize, channel: u8, number: u16, bytes: &[u8]) -> usize
     requires short { length bytes.now < 65536 }
     requires room { place + 6 + length bytes.now ≤ length out.old }
-    ensures put { Puts (command_spelling (Command.Reliable channel number true bytes.now)) place result out.old out.new }
+    ensures put { PutsText
+        (command_spelling (Command.Reliable channel number true bytes.now)) place result out.old out.new }
     ensures fit { Fit (all_fields (Command.Reliable channel number true bytes.now)) }
 {
     let place = put_u8(out, place, RELIABLE | ASKS);

@@ -2,7 +2,7 @@
 
 ghost use Rattle.std.specs.Prelude.{◌≡◌, ◌<◌, ◌++◌, [], ◌∷◌, length, IfOk, OnErr, IsErrOf};
 ghost use Rattle.gs_enet_wire.specs.Grammar.{u16, u32, piece_fields, shared_fields};
-ghost use Rattle.gs_enet_wire.specs.Reading.{Takes, TakesBody, BeginsNoBody};
+ghost use Rattle.gs_enet_wire.specs.Reading.{TakesFields, TakesBody, BeginsNoBody};
 
 use crate::command::Head;
 use crate::cursor::{Cursor, ReadError};
@@ -38,7 +38,7 @@ pub fn acknowledge(head: Head, cursor: &mut Cursor<'_>) -> Result<Command, ReadE
 
 /// What a connect and its answer have in common.
 fn connection(head: Head, cursor: &mut Cursor<'_>) -> Result<Connect, ReadError>
-    ensures taken { IfOk result (λ c. Takes (shared_fields c) cursor.old cursor.new) }
+    ensures taken { IfOk result (λ c. TakesFields (shared_fields c) cursor.old cursor.new) }
     ensures channel { IfOk result (λ c. c.channel ≡ head.channel) }
     ensures number { IfOk result (λ c. c.number ≡ head.number) }
     ensures asks { IfOk result (λ c. c.asks ≡ head.asks) }
@@ -201,7 +201,7 @@ pub fn unsequenced(alloc: Global, head: Head, cursor: &mut Cursor<'_>) -> Result
 }
 
 fn piece_of(cursor: &mut Cursor<'_>) -> Result<Piece, ReadError>
-    ensures taken { IfOk result (λ p. Takes (piece_fields p) cursor.old cursor.new) }
+    ensures taken { IfOk result (λ p. TakesFields (piece_fields p) cursor.old cursor.new) }
     ensures cut { OnErr result (length cursor.old < 20) }
 {
     let start = cursor.u16()?;

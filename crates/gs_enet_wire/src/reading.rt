@@ -1,7 +1,10 @@
 //! A datagram, read from all of the bytes: its header, and command after command.
 
-ghost use Rattle.std.specs.Prelude.{◌≡◌, ◌+◌, ◌*◌, ◌/◌, ◌<◌, ◌≤◌, [], length, IfOk, IfErr, OnOk, OnErr, IsErrOf, ◌⊎◌, ℕ, Ok, Err};
-ghost use Rattle.gs_enet_wire.specs.Grammar.{IsFault, most_datagram, with_header, BeginsNoCommand, Spells, IsFaultAt, AreCommands, spelling};
+ghost use Rattle.std.specs.Prelude.{◌≡◌, ◌+◌, ◌*◌, ◌/◌, ◌<◌, ◌≤◌, [], length, IfOk, IfErr, OnOk, OnErr, IsErrOf, ◌⊎◌};
+ghost use Rattle.std.specs.Prelude.{ℕ, Ok, Err};
+ghost use Rattle.gs_enet_wire.specs.Grammar.{IsFault, most_on_link, with_header, BeginsNoCommand, SpellsDatagram};
+ghost use Rattle.gs_enet_wire.specs.Grammar.{IsFaultAt};
+ghost use Rattle.gs_enet_wire.specs.Grammar.{AreCommands, spelling};
 ghost use Rattle.gs_enet_wire.specs.ReadingHeader.{TakesTime, TakesHeader, StopsWith};
 ghost use Rattle.gs_enet_wire.specs.Reading.{TakesHead, TakesBody, BeginsNoBody, TakesCommand};
 ghost use Rattle.gs_enet_wire.specs.declared.datagram.Datagram.{Datagram};
@@ -11,8 +14,8 @@ use crate::command::{
     THROTTLE, UNRELIABLE, UNRELIABLE_FRAGMENT, UNSEQUENCED, VERIFY_CONNECT,
 };
 use crate::cursor::{Cursor, ReadError};
-use crate::limits::MOST_DATAGRAM;
 use crate::{Command, Commands, Datagram, WireError, read_body};
+use gs_bytes::MOST_ON_LINK;
 use std::alloc::{AllocFailed, Global};
 
 /// The bits of the first two bytes that hold the peer id.
@@ -54,7 +57,7 @@ fn sent_time(word: u16, cursor: &mut Cursor<'_>) -> Result<Option<u16>, ReadErro
 
 pub fn read_header(cursor: &mut Cursor<'_>) -> Result<DatagramHeader, WireError>
     ensures taken { IfOk result (λ h. TakesHeader h cursor.old cursor.new) }
-    ensures fault { length cursor.old ≤ most_datagram → IfErr result (IsFault cursor.old) }
+    ensures fault { length cursor.old ≤ most_on_link → IfErr result (IsFault cursor.old) }
 {
     let Ok(word) = cursor.u16() else {
         return Err(WireError::BadDatagram(0));
@@ -148,7 +151,7 @@ fn read_commands(
     cursor: &mut Cursor<'_>,
     commands: &mut Vec<Command>,
 ) -> Result<(), WireError>
-    requires short { start + length cursor.old ≤ most_datagram }
+    requires short { start + length cursor.old ≤ most_on_link }
     requires none { commands.old.items ≡ [] }
     ensures read { OnOk result (AreCommands timed cursor.old commands.new.items) }
     ensures fault { IfErr result (StopsWith timed start cursor.old) }
@@ -175,9 +178,9 @@ fn read_commands(
 /// is unknown, is cut, or asks for an acknowledgement in a datagram without a sent time.
 pub fn read(alloc: Global, bytes: &[u8]) -> Result<Datagram, WireError>
     // What is read is spelled so.
-    ensures found { IfOk result (λ datagram. Spells bytes.now datagram) }
+    ensures found { IfOk result (λ datagram. SpellsDatagram bytes.now datagram) }
     // What is spelled so is read, unless memory runs out.
-    ensures found_only { (datagram : Datagram) → Spells bytes.now datagram
+    ensures found_only { (datagram : Datagram) → SpellsDatagram bytes.now datagram
         → (result ≡ Ok datagram) ⊎ (result ≡ Err WireError.OutOfMemory) }
     // Written again it takes as many bytes.
     ensures size { IfOk result (λ datagram. length (spelling datagram) ≡ length bytes.now) }
@@ -192,7 +195,7 @@ pub fn read(alloc: Global, bytes: &[u8]) -> Result<Datagram, WireError>
 }
 
 fn whole(alloc: Global, bytes: &[u8]) -> Result<Datagram, WireError>
-    ensures found { IfOk result (λ datagram. Spells bytes.now datagram) }
+    ensures found { IfOk result (λ datagram. SpellsDatagram bytes.now datagram) }
     ensures fault { IfErr result (IsFault bytes.now) }
 {
     let mut commands = Vec::new(alloc);
@@ -208,7 +211,7 @@ fn whole(alloc: Global, bytes: &[u8]) -> Result<Datagram, WireError>
 /// Reads as `read` does, for a reader that keeps a vector from one datagram to the next: answers the
 /// datagram's header, and leaves its commands in the vector in place of what stood there.
 pub fn read_into(bytes: &[u8], commands: &mut Vec<Command>) -> Result<DatagramHeader, WireError>
-    ensures found { IfOk result (λ header. Spells bytes.now (with_header header commands.new.items)) }
+    ensures found { IfOk result (λ header. SpellsDatagram bytes.now (with_header header commands.new.items)) }
     ensures fault { IfErr result (IsFault bytes.now) }
     ensures fault_only { (place : ℕ) → IsFaultAt bytes.now place
         → (result ≡ Err (WireError.BadDatagram place)) ⊎ (result ≡ Err WireError.OutOfMemory) }
@@ -219,11 +222,11 @@ pub fn read_into(bytes: &[u8], commands: &mut Vec<Command>) -> Result<DatagramHe
 
 fn read_parts(bytes: &[u8], commands: &mut Vec<Command>) -> Result<DatagramHeader, WireError>
     requires none { commands.old.items ≡ [] }
-    ensures found { IfOk result (λ header. Spells bytes.now (with_header header commands.new.items)) }
+    ensures found { IfOk result (λ header. SpellsDatagram bytes.now (with_header header commands.new.items)) }
     ensures fault { IfErr result (IsFault bytes.now) }
 {
-    if bytes.len() > MOST_DATAGRAM {
-        return Err(WireError::BadDatagram(MOST_DATAGRAM));
+    if bytes.len() > MOST_ON_LINK {
+        return Err(WireError::BadDatagram(MOST_ON_LINK));
     }
     let mut cursor = Cursor::new(bytes);
     let header = read_header(&mut cursor)?;

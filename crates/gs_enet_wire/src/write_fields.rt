@@ -1,8 +1,9 @@
 //! Fields, written one after the other, and those behind a command's head by the kind of command.
 
 ghost use Rattle.std.specs.Prelude.{◌+◌, ◌≤◌, [], ◌∷◌, length, ◌≡◌, ◌⊎◌, ◌<◌};
-ghost use Rattle.gs_enet_wire.specs.Grammar.{u8, u16, u32, kind, fields, fields_bytes, payload, piece_fields, shared_fields};
-ghost use Rattle.gs_enet_wire.specs.Writing.{Puts, PutsFields};
+ghost use Rattle.gs_enet_wire.specs.Grammar.{u8, u16, u32, kind, fields, fields_bytes, payload, piece_fields};
+ghost use Rattle.gs_enet_wire.specs.Grammar.{shared_fields};
+ghost use Rattle.gs_enet_wire.specs.Writing.{PutsText, PutsFields};
 
 use crate::read_body::Piece;
 use crate::{Command, Connect};
@@ -35,7 +36,7 @@ pub fn put_u32(out: &mut [u8], place: usize, number: u32) -> usize
 
 pub fn put_bytes(out: &mut [u8], place: usize, bytes: &[u8]) -> usize
     requires { place + length bytes.now ≤ length out.old }
-    ensures { Puts bytes.now place result out.old out.new }
+    ensures { PutsText bytes.now place result out.old out.new }
 {
     let end = place + bytes.len();
     out[place..end].copy_from_slice(bytes);

@@ -4,19 +4,19 @@ ghost use Rattle.std.specs.Prelude.{◌≡◌, ◌≢◌, ◌+◌, ◌*◌, ◌<
 ghost use Rattle.std.specs.List.{flat_map};
 ghost use Rattle.gs_enet_wire.specs.Grammar.{
   kind,
-  head,
+  command_head,
   asking,
   all_fields,
   payload,
   Fit,
   header,
-  most_datagram,
+  most_on_link,
   command_spelling,
   spelling,
   AreCommands,
-  Spells,
+  SpellsDatagram,
 };
-ghost use Rattle.gs_enet_wire.specs.Writing.{Puts, PutsFields};
+ghost use Rattle.gs_enet_wire.specs.Writing.{PutsText, PutsFields};
 
 use crate::command::ASKS;
 use crate::reading::SENT_TIME;
@@ -24,7 +24,7 @@ use crate::write_fields::{put_bytes, put_fields, put_u8, put_u16};
 use crate::{Command, Datagram};
 
 fn first_byte(command: &Command) -> u8
-    ensures { result ≡ kind command.now + 128 * asking (head command.now).asks }
+    ensures { result ≡ kind command.now + 128 * asking (command_head command.now).asks }
 {
     if command.asks() {
         command.kind() | ASKS
@@ -36,7 +36,7 @@ fn first_byte(command: &Command) -> u8
 pub fn put_command(out: &mut [u8], place: usize, command: &Command) -> usize
     requires short { length (payload command.now) < 65536 }
     requires room { place + length (command_spelling command.now) ≤ length out.old }
-    ensures put { Puts (command_spelling command.now) place result out.old out.new }
+    ensures put { PutsText (command_spelling command.now) place result out.old out.new }
     ensures fit { Fit (all_fields command.now) }
 {
     let place = put_u8(out, place, first_byte(command));
@@ -47,9 +47,9 @@ pub fn put_command(out: &mut [u8], place: usize, command: &Command) -> usize
 }
 
 fn put_commands(out: &mut [u8], place: usize, commands: &[Command]) -> usize
-    requires short { length (flat_map command_spelling commands.now) ≤ most_datagram }
+    requires short { length (flat_map command_spelling commands.now) ≤ most_on_link }
     requires room { place + length (flat_map command_spelling commands.now) ≤ length out.old }
-    ensures put { Puts (flat_map command_spelling commands.now) place result out.old out.new }
+    ensures put { PutsText (flat_map command_spelling commands.now) place result out.old out.new }
     ensures spelled { AreCommands true (flat_map command_spelling commands.now) commands.now }
 {
     let mut end = place;
@@ -80,12 +80,12 @@ pub fn write(datagram: &Datagram, out: &mut [u8]) -> usize
     requires session { datagram.now.session ≡ 0 }
     requires timed { IsSome datagram.now.sent }
     requires some { datagram.now.commands ≢ [] }
-    requires short { length (spelling datagram.now) ≤ most_datagram }
+    requires short { length (spelling datagram.now) ≤ most_on_link }
     requires room { length (spelling datagram.now) ≤ length out.old }
     ensures count { result ≡ length (spelling datagram.now) }
     ensures written { out.new ≡ spelling datagram.now ++ drop result out.old }
     // So what was written is read again as the same datagram.
-    ensures spelled { Spells (spelling datagram.now) datagram.now }
+    ensures spelled { SpellsDatagram (spelling datagram.now) datagram.now }
 {
     let place = put_header(out, datagram);
     put_commands(out, place, datagram.commands.as_slice())

@@ -18,7 +18,7 @@ use Rattle.gs_fecqueue.specs.declared.moved.Moved.{Moved}
 use Rattle.gs_fecqueue.specs.declared.queue.Queue.{Queue}
 use Rattle.gs_fecqueue.specs.Holding.{Brings}
 use Rattle.gs_fecqueue.specs.Moves.{moved_to, moved_behind, moved_of, moved_by}
-use Rattle.gs_fecqueue.specs.Standing.{all_but_last, IsStanding, StandsFor}
+use Rattle.gs_fecqueue.specs.Standing.{all_but_last, IsStanding, IsQueueOf}
 use Rattle.gs_fecqueue.specs.QueueSteps.{head_or_why}
 use Rattle.gs_fecqueue.proofs.Given.{received_with, stands-same, stands-old, old-verdict, foreign, own, brings-with, taken-with, taken-without, stands-behind}
 
@@ -26,16 +26,16 @@ use Rattle.gs_fecqueue.proofs.Given.{received_with, stands-same, stands-old, old
 pub record AddGives (after : Queue) (c : ClientSettings) (came : List Arrival) (bytes : List ℕ) (what : Added) (moved : Option Moved) : Type 0 where
   pub what_is : what ≡ verdict c came bytes
   pub moved_is : moved ≡ moved_by c came bytes
-  pub stands : StandsFor after c (Datagram bytes ∷ came)
+  pub stands : IsQueueOf after c (Datagram bytes ∷ came)
 
 -- by the client's settings
-by_client : (q : Queue) (c : ClientSettings) (came : List Arrival) (bytes : List ℕ) (x : Result VideoHead Why) → StandsFor q c came
+by_client : (q : Queue) (c : ClientSettings) (came : List Arrival) (bytes : List ℕ) (x : Result VideoHead Why) → IsQueueOf q c came
     → x ≡ head_or_why q.ssrc (video_head q.packet bytes) → head_or_why c.stream.ssrc (video_head c.stream.packet bytes) ≡ x
 by_client q c came bytes x stands e =
     sym (e ∙ ap (λ (n : ℕ). head_or_why n (video_head q.packet bytes)) stands.ssrc
     ∙ ap (λ (n : ℕ). head_or_why c.stream.ssrc (video_head n bytes)) stands.packet)
 
-pub gives-foreign : (q : Queue) (c : ClientSettings) (came : List Arrival) (bytes : List ℕ) (why : Why) → StandsFor q c came
+pub gives-foreign : (q : Queue) (c : ClientSettings) (came : List Arrival) (bytes : List ℕ) (why : Why) → IsQueueOf q c came
     → Err why ≡ head_or_why q.ssrc (video_head q.packet bytes) → AddGives q c came bytes (Foreign why) None
 gives-foreign q c came bytes why stands e =
     let is = foreign c came bytes (video_head c.stream.packet bytes) why refl (by_client q c came bytes (Err why) stands e) in
@@ -46,7 +46,7 @@ gives-foreign q c came bytes why stands e =
           (stands-same q c (taken c (all_but_last came)) (taken c came) stands);
     }
 
-pub gives-old : (q : Queue) (c : ClientSettings) (came : List Arrival) (bytes : List ℕ) (head : VideoHead) → StandsFor q c came
+pub gives-old : (q : Queue) (c : ClientSettings) (came : List Arrival) (bytes : List ℕ) (head : VideoHead) → IsQueueOf q c came
     → Ok head ≡ head_or_why q.ssrc (video_head q.packet bytes) → IsVideoHead head → head.frame + q.window ≤ q.greatest
     → AddGives q c came bytes (Old q.greatest) None
 gives-old q c came bytes head stands e grammar old =
@@ -66,7 +66,7 @@ gives-old q c came bytes head stands e grammar old =
 
 pub gives-taken : (q after : Queue) (c : ClientSettings) (came : List Arrival) (bytes : List ℕ) (head : VideoHead) (size : ℕ) (what : Added)
     (moved : Option Moved)
-    → StandsFor q c came → Ok head ≡ head_or_why q.ssrc (video_head q.packet bytes) → q.packet ≤ length bytes → q.greatest < head.frame + q.window
+    → IsQueueOf q c came → Ok head ≡ head_or_why q.ssrc (video_head q.packet bytes) → q.packet ≤ length bytes → q.greatest < head.frame + q.window
     → size ≡ q.packet - 16
     → ((before now : List Received) (r : Received) → IsStanding q c before now → is_left c.window now r.head.frame ≡ false
     → Brings c.stream head (take (length bytes - (length bytes - size)) (drop (length bytes - size) bytes)) r

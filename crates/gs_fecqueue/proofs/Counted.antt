@@ -9,7 +9,7 @@ use Rattle.std.proofs.lemmas.List.FromFn.{fill_by_all}
 use Rattle.gs_rs.specs.Restore.{count_present}
 use Rattle.gs_rs.proofs.Flags.{flags_from, count-one, count-none}
 use Rattle.gs_frames.specs.Received.{Received}
-use Rattle.gs_fecqueue.specs.Places.{total_of, is_shard_held, AreShards, HasFlagsOf}
+use Rattle.gs_fecqueue.specs.Places.{shard_total, is_shard_held, AreShards, HasFlagsOf}
 
 -- a number apart from all of them isn't among them
 pub not_among : (x : ℕ) (held : List Received) → All (λ r. x ≢ r.head.index) held → is_shard_held held x ≡ false
@@ -60,5 +60,5 @@ count-among n (r ∷ held) below apart =
 pub count-flags : (flags : List Bool) (held : List Received) (first : Received) → HasFlagsOf flags held first → AreShards held first
     → count_present flags ≡ length held
 count-flags flags held first has are =
-    ap count_present (fill_by_all (is_shard_held held) flags (total_of first.head) false has.count has.each)
-    ∙ count-among (total_of first.head) held are.indices are.distinct
+    ap count_present (fill_by_all (is_shard_held held) flags (shard_total first.head) false has.count has.each)
+    ∙ count-among (shard_total first.head) held are.indices are.distinct

@@ -15,7 +15,7 @@ use Rattle.gs_frames.specs.declared.verdict.Why.TheVariants.{Shape as OtherShape
 use Rattle.gs_frames.specs.declared.verdict.Shape.{Shape}
 use Rattle.gs_frames.specs.Received.{Received, oldest, is_of_block}
 use Rattle.gs_frames.specs.Verdict.{shape_came, shape_said, first_or, is_same_shape, is_repeat, is_spare, has_all, is_block_whole, is_frame_whole, made_whole}
-use Rattle.gs_frames.specs.Verdict.{is_counted}
+use Rattle.gs_frames.specs.Verdict.{is_counting}
 use Rattle.gs_frames.specs.Complete.{payloads}
 use Rattle.gs_fecqueue.specs.declared.block.Block.{Block}
 use Rattle.gs_fecqueue.specs.declared.frame.Frame.{Frame}
@@ -57,7 +57,7 @@ lifted-tests true false false true why done = refl
 lifted-tests true false false false why done = refl
 
 -- a verdict that counts, of a block
-tests-counted : (same repeat spare whole : Bool) (why : Why) → is_counted (tests same repeat spare why (made_block_whole whole)) ≡ true
+tests-counted : (same repeat spare whole : Bool) (why : Why) → is_counting (tests same repeat spare why (made_block_whole whole)) ≡ true
     → (same ≡ true) × (tests same repeat spare why (made_block_whole whole) ≡ made_block_whole whole)
 tests-counted false repeat spare whole why e = let no : false ≡ true = e in cc
 tests-counted true true spare whole why e = let no : false ≡ true = e in cc
@@ -131,7 +131,7 @@ frame_verdict-is first r counted last last_is within =
     ∙ lifted-tests (is_same_shape (shape_in last r o) (shape_came r)) repeat spare whole (OtherShape (shape_in last r o) (shape_came r)) done
 
 -- where the block's verdict counts, it says the same of the last block
-pub counted-same : (last : ℕ) (r : Received) (held : List Received) (o : Option Received) → is_counted (block_verdict last r held o) ≡ true
+pub counted-same : (last : ℕ) (r : Received) (held : List Received) (o : Option Received) → is_counting (block_verdict last r held o) ≡ true
     → (last ≡ r.head.last_block) × (block_verdict last r held o ≡ made_block_whole (has_all (r ∷ held) (Some (first_or r o))))
 counted-same last r held o counts =
     let had = shape_in last r o in
@@ -174,10 +174,10 @@ blocks-hold s before after counted first r b new counts holds frame_is block_is 
 
 -- a block that didn't become whole leaves the frame's image as it was
 pub frame-holds : (s : StreamSettings) (before after : Frame) (counted : List Received) (first r : Received) (v : Added)
-    → HoldsFrame s before counted first → HoldsBlocks s after (counted_behind (is_counted v) r counted) first
+    → HoldsFrame s before counted first → HoldsBlocks s after (counted_behind (is_counting v) r counted) first
     → r.head.frame ≡ before.number → r.head.block ≤ r.head.last_block → after.number ≡ before.number → after.image.items ≡ before.image.items
     → v ≡ block_verdict before.last_block r (filter (is_of_block r.head.frame r.head.block) counted) (oldest (is_of_block r.head.frame r.head.block) counted)
-    → (v ≡ BlockWhole → ⊥) → HoldsFrame s after (counted_behind (is_counted v) r counted) first
+    → (v ≡ BlockWhole → ⊥) → HoldsFrame s after (counted_behind (is_counting v) r counted) first
 frame-holds s before after counted first r v was holds frame_is within number_is image_is v_is other =
     let last = first.head.last_block in
     let Image : Bool → Type 0 = λ counts.
@@ -185,7 +185,7 @@ frame-holds s before after counted first r v was holds frame_is within number_is
     → payloads s (counted_behind counts r counted) after.number (last + 1) ≡ Some after.image.items in
     record {
       holds = holds;
-      image = elim (cases_Bool (is_counted v)) [
+      image = elim (cases_Bool (is_counting v)) [
         | inr not_counted ↦
             let same : Image false = λ several whole.
             ap (λ (n : ℕ). payloads s counted n (last + 1)) number_is
@@ -196,7 +196,7 @@ frame-holds s before after counted first r v was holds frame_is within number_is
             let held = filter (is_of_block r.head.frame r.head.block) counted in
             let o = oldest (is_of_block r.head.frame r.head.block) counted in
             let whole = has_all (r ∷ held) (Some (first_or r o)) in
-            let found = counted-same before.last_block r held o (ap is_counted (sym v_is) ∙ counts) in
+            let found = counted-same before.last_block r held o (ap is_counting (sym v_is) ∙ counts) in
             let not_whole : whole ≡ false = made-other whole (λ e. other (v_is ∙ found.1 ∙ e)) in
             let none : Image true = λ several frame_whole.
             let mine : is_frame_whole (r ∷ counted) r.head.frame last ≡ true =
@@ -207,10 +207,10 @@ frame-holds s before after counted first r v was holds frame_is within number_is
       ];
     }
 
-pub completed-counts : (counted : List Received) (f last : ℕ) → is_counted (completed counted f last) ≡ true
+pub completed-counts : (counted : List Received) (f last : ℕ) → is_counting (completed counted f last) ≡ true
 completed-counts counted f last = elim (cases_Bool (is_frame_whole counted f last)) [
-  | inl whole ↦ ap is_counted (cond-true (is_frame_whole counted f last) FrameWhole BlockWhole whole)
-  | inr not_whole ↦ ap is_counted (cond-false (is_frame_whole counted f last) FrameWhole BlockWhole not_whole)
+  | inl whole ↦ ap is_counting (cond-true (is_frame_whole counted f last) FrameWhole BlockWhole whole)
+  | inr not_whole ↦ ap is_counting (cond-false (is_frame_whole counted f last) FrameWhole BlockWhole not_whole)
 ]
 
 -- ---- what its block's verdict gives
@@ -221,7 +221,7 @@ pub record TakenByBlock (s : StreamSettings) (before after : Frame) (counted : L
       ≡ block_verdict before.last_block r (filter (is_of_block r.head.frame r.head.block) counted)
       (oldest (is_of_block r.head.frame r.head.block) counted)
   pub within : r.head.block ≤ r.head.last_block
-  pub blocks : HoldsBlocks s after (counted_behind (is_counted v) r counted) first
+  pub blocks : HoldsBlocks s after (counted_behind (is_counting v) r counted) first
 
 pub taken_by_block : (s : StreamSettings) (before after : Frame) (counted : List Received) (first r : Received) (head : VideoHead) (payload : List ℕ)
     (b : ℕ) (old new : Block) (v : Added)
@@ -229,7 +229,7 @@ pub taken_by_block : (s : StreamSettings) (before after : Frame) (counted : List
     → slice_get before.blocks b ≡ Some old
     → ((held : List Received) (o : Option Received) → HoldsBlock s old held o → v ≡ block_verdict before.last_block r held o)
     → ((held : List Received) (o : Option Received) → HoldsBlock s old held o
-    → HoldsBlock s new (held_behind (is_counted v) r held) (first_behind (is_counted v) r o))
+    → HoldsBlock s new (held_behind (is_counting v) r held) (first_behind (is_counting v) r o))
     → after.number ≡ before.number → after.last_block ≡ before.last_block → after.blocks ≡ set before.blocks b new
     → TakenByBlock s before after counted first r v
 taken_by_block s before after counted first r head payload b old new v was frame_is brings grammar b_is old_is verdict holds number_is last_is blocks_are =
@@ -243,7 +243,7 @@ taken_by_block s before after counted first r head payload b old new v was frame
     record {
       verdict = verdict held o mine;
       within = omega (arith, grammar.block, ap (λ (h : VideoHead). h.block) e, ap (λ (h : VideoHead). h.last_block) e);
-      blocks = blocks-hold s before after counted first r b new (is_counted v) was.holds frame_is block_is number_is last_is blocks_are (holds held o mine);
+      blocks = blocks-hold s before after counted first r b new (is_counting v) was.holds frame_is block_is number_is last_is blocks_are (holds held o mine);
     }
 
 pub taken-blocks : (s : StreamSettings) (before after : Frame) (counted : List Received) (first r : Received) (head : VideoHead) (payload : List ℕ)
@@ -252,9 +252,9 @@ pub taken-blocks : (s : StreamSettings) (before after : Frame) (counted : List R
     → slice_get before.blocks b ≡ Some old
     → ((held : List Received) (o : Option Received) → HoldsBlock s old held o → v ≡ block_verdict before.last_block r held o)
     → ((held : List Received) (o : Option Received) → HoldsBlock s old held o
-    → HoldsBlock s new (held_behind (is_counted v) r held) (first_behind (is_counted v) r o))
+    → HoldsBlock s new (held_behind (is_counting v) r held) (first_behind (is_counting v) r o))
     → after.number ≡ before.number → after.last_block ≡ before.last_block → after.blocks ≡ set before.blocks b new
-    → HoldsBlocks s after (counted_behind (is_counted v) r counted) first
+    → HoldsBlocks s after (counted_behind (is_counting v) r counted) first
 taken-blocks s before after counted first r head payload b old new v was frame_is brings grammar b_is old_is verdict holds number_is last_is blocks_are =
     (taken_by_block s before after counted first r head payload b old new v was frame_is brings grammar b_is old_is verdict holds number_is last_is
     blocks_are).blocks
@@ -265,9 +265,9 @@ pub taken-holds : (s : StreamSettings) (before after : Frame) (counted : List Re
     → slice_get before.blocks b ≡ Some old
     → ((held : List Received) (o : Option Received) → HoldsBlock s old held o → v ≡ block_verdict before.last_block r held o)
     → ((held : List Received) (o : Option Received) → HoldsBlock s old held o
-    → HoldsBlock s new (held_behind (is_counted v) r held) (first_behind (is_counted v) r o))
+    → HoldsBlock s new (held_behind (is_counting v) r held) (first_behind (is_counting v) r o))
     → after.number ≡ before.number → after.last_block ≡ before.last_block → after.blocks ≡ set before.blocks b new
-    → after.image.items ≡ before.image.items → (v ≡ BlockWhole → ⊥) → HoldsFrame s after (counted_behind (is_counted v) r counted) first
+    → after.image.items ≡ before.image.items → (v ≡ BlockWhole → ⊥) → HoldsFrame s after (counted_behind (is_counting v) r counted) first
 taken-holds s before after counted first r head payload b old new v was frame_is brings grammar b_is old_is verdict holds number_is last_is blocks_are image_is
     other =
     let by =

@@ -14,7 +14,7 @@ use Rattle.gs_frames.specs.Verdict.{first_or, has_all, is_block_whole, is_frame_
 use Rattle.gs_frames.specs.Complete.{joined_payloads, block_payloads, both, payloads}
 use Rattle.gs_frames.proofs.Counting.{oldest-miss, oldest-kept, oldest-new}
 use Rattle.gs_fecqueue.specs.declared.block.Block.{Block}
-use Rattle.gs_fecqueue.specs.Holding.{data_of, HoldsShards, HoldsBlock}
+use Rattle.gs_fecqueue.specs.Holding.{data_of_block, HoldsShards, HoldsBlock}
 use Rattle.gs_fecqueue.specs.BlockVerdict.{held_behind, first_behind}
 use Rattle.gs_fecqueue.specs.FrameHolding.{is_whole_room, HoldsBlockOf, counted_behind, first_data}
 
@@ -33,7 +33,7 @@ room_whole s block held (Some f) holds =
 
 -- a whole block has its payloads
 pub block-data : (s : StreamSettings) (block : Block) (held : List Received) (o : Option Received) → HoldsBlock s block held o
-    → has_all held o ≡ true → block_payloads s held o ≡ Some (data_of (payload_of s) block)
+    → has_all held o ≡ true → block_payloads s held o ≡ Some (data_of_block (payload_of s) block)
 block-data s block held None holds whole = cc
 block-data s block held (Some f) holds whole =
     cond-true (length held == f.head.shards) (Some (joined_payloads s held f)) None whole
@@ -79,7 +79,7 @@ range-each test a (suc n) b all least most =
 -- the payloads of the first n blocks stand in their rooms
 pub payloads-held : (s : StreamSettings) (counted : List Received) (f n : ℕ) (blocks : List Block) → n ≤ length blocks → HoldFrom s counted f 0 blocks
     → ((b : ℕ) → b < n → is_block_whole counted f b ≡ true)
-    → payloads s counted f n ≡ Some (flat_map (data_of (payload_of s)) (take n blocks))
+    → payloads s counted f n ≡ Some (flat_map (data_of_block (payload_of s)) (take n blocks))
 payloads-held s counted f zero blocks room hold whole = refl
 payloads-held s counted f (suc n) blocks room hold whole =
     let size = payload_of s in
@@ -88,14 +88,14 @@ payloads-held s counted f (suc n) blocks room hold whole =
     let block = at.0 in
     let held = filter (is_of_block f n) counted in
     let o = oldest (is_of_block f n) counted in
-    let here : block_payloads s held o ≡ Some (data_of size block) =
+    let here : block_payloads s held o ≡ Some (data_of_block size block) =
     block-data s block held o (hold n n block at.1 (omega arith)) (whole n (omega arith)) in
     ap (λ (p : Option (List ℕ)). both p (block_payloads s held o)) before
-    ∙ ap (λ (p : Option (List ℕ)). both (Some (flat_map (data_of size) (take n blocks))) p) here
+    ∙ ap (λ (p : Option (List ℕ)). both (Some (flat_map (data_of_block size) (take n blocks))) p) here
     ∙ ap (λ (l : List ℕ). Some l)
-    (ap (λ (l : List ℕ). flat_map (data_of size) (take n blocks) ++ l) (sym (append-nil (data_of size block)))
-    ∙ sym (flat_map-append (data_of size) (take n blocks) (block ∷ []))
-    ∙ ap (λ (l : List Block). flat_map (data_of size) l) (sym (take-one blocks n block at.1)))
+    (ap (λ (l : List ℕ). flat_map (data_of_block size) (take n blocks) ++ l) (sym (append-nil (data_of_block size block)))
+    ∙ sym (flat_map-append (data_of_block size) (take n blocks) (block ∷ []))
+    ∙ ap (λ (l : List Block). flat_map (data_of_block size) l) (sym (take-one blocks n block at.1)))
   where
     block_at : (xs : List Block) (i : ℕ) → i < length xs → (x : Block) × (slice_get xs i ≡ Some x)
     block_at [] i h = absurd (omega arith)
@@ -141,12 +141,6 @@ get-set_other (z ∷ zs) zero zero x other = absurd (other refl)
 get-set_other (z ∷ zs) zero (suc j) x other = refl
 get-set_other (z ∷ zs) (suc i) zero x other = refl
 get-set_other (z ∷ zs) (suc i) (suc j) x other = get-set_other zs i j x (λ e. other (ap (λ (n : ℕ). suc n) e))
-
--- an element within a list
-pub element : {X : Type 0} (xs : List X) (i : ℕ) → i < length xs → (x : X) × (slice_get xs i ≡ Some x)
-element [] i h = absurd (omega arith)
-element (x ∷ xs) zero h = (x, refl)
-element (x ∷ xs) (suc i) h = element xs i (omega arith)
 
 -- what counts of r's block, and the first of it
 pub filter-own : (f b : ℕ) (counts : Bool) (r : Received) (counted : List Received) → is_of_block f b r ≡ true

@@ -16,7 +16,7 @@ use Rattle.gs_frames.specs.declared.verdict.Why.TheVariants.{Grammar, Ssrc}
 use Rattle.gs_frames.specs.Client.{ClientSettings, Arrival, Datagram, Reset}
 use Rattle.gs_frames.specs.Shards.{packet_header, payload_of, covered_header}
 use Rattle.gs_frames.specs.Received.{Received, covered_of, carried_shard, of_session, received, taken, greatest, is_left, oldest, is_of_frame}
-use Rattle.gs_frames.specs.Verdict.{is_counted, judged, counting, judged_of_session, judged_bytes, verdict}
+use Rattle.gs_frames.specs.Verdict.{is_counting, judged, counting, judged_of_session, judged_bytes, verdict}
 use Rattle.gs_frames.proofs.Counting.{greatest-kept, oldest-none}
 use Rattle.gs_frames.proofs.SettledUp.{greatest-grows, left-says, left-from, left-not_says, left-not_from}
 use Rattle.gs_fecqueue.specs.declared.queue.Queue.{Queue}
@@ -24,7 +24,7 @@ use Rattle.gs_fecqueue.specs.declared.frame.Frame.{Frame}
 use Rattle.gs_fecqueue.specs.Holding.{Brings}
 use Rattle.gs_fecqueue.specs.Places.{kept_payload}
 use Rattle.gs_fecqueue.specs.Moves.{moved_behind, moved_of, moved_by}
-use Rattle.gs_fecqueue.specs.Standing.{is_at_hand, all_but_last, HasCome, IsHeld, IsAt, IsAmong, IsStanding, StandsFor}
+use Rattle.gs_fecqueue.specs.Standing.{is_at_hand, all_but_last, HasFrameCome, IsHeld, IsAt, IsAmong, IsStanding, IsQueueOf}
 use Rattle.gs_fecqueue.specs.QueueSteps.{head_or_why}
 use Rattle.gs_fecqueue.proofs.OtherFrames.{held-passed, come-other}
 
@@ -64,8 +64,8 @@ stands-old q c before now r is least left =
     let g = r.head.frame in
     let below = left-says w now g left in
     let same : greatest (r ∷ now) ≡ greatest now = greatest-kept r now (omega arith) in
-    let passed : is_counted (judged w r now (counting w now)) ≡ false = ap is_counted (old-verdict c now r left) in
-    let came-before : (f : ℕ) → greatest now < f + w → HasCome (r ∷ now) f → HasCome now f =
+    let passed : is_counting (judged w r now (counting w now)) ≡ false = ap is_counting (old-verdict c now r left) in
+    let came-before : (f : ℕ) → greatest now < f + w → HasFrameCome (r ∷ now) f → HasFrameCome now f =
     λ f near came. come-other now f r (ne_eqb g f (λ e. absurd (omega arith))) came in
     record {
       packet = is.packet;
@@ -178,11 +178,11 @@ pub taken-without : (c : ClientSettings) (came : List Arrival) (bytes : List ℕ
 taken-without c came bytes e = ap (λ (o : Option Received). cons_option o (taken c came)) e
 
 pub stands-behind : (q : Queue) (c : ClientSettings) (came : List Arrival) (bytes : List ℕ) (rs : List Received)
-    → taken c (Datagram bytes ∷ came) ≡ rs → IsStanding q c (taken c came) rs → StandsFor q c (Datagram bytes ∷ came)
+    → taken c (Datagram bytes ∷ came) ≡ rs → IsStanding q c (taken c came) rs → IsQueueOf q c (Datagram bytes ∷ came)
 stands-behind q c came bytes rs e is =
     let Of : List Received → Type 0 = λ l. IsStanding q c (taken c came) l in
     subst Of (sym e) is
 
 -- a reset changes nothing
-pub stands-reset : (q : Queue) (c : ClientSettings) (came : List Arrival) → StandsFor q c came → StandsFor q c (Reset ∷ came)
+pub stands-reset : (q : Queue) (c : ClientSettings) (came : List Arrival) → IsQueueOf q c came → IsQueueOf q c (Reset ∷ came)
 stands-reset q c came is = stands-same q c (taken c (all_but_last came)) (taken c came) is

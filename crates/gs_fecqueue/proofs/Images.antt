@@ -12,11 +12,11 @@ use Rattle.gs_frames.specs.Complete.{payloads, image_behind}
 use Rattle.gs_frames.proofs.WholeFrames.{whole_blocks}
 use Rattle.gs_fecqueue.specs.declared.frame.Frame.{Frame}
 use Rattle.gs_fecqueue.specs.FrameHolding.{first_data, image_held}
-use Rattle.gs_fecqueue.specs.Standing.{HasCome, IsHeld}
+use Rattle.gs_fecqueue.specs.Standing.{HasFrameCome, IsHeld}
 use Rattle.gs_fecqueue.proofs.Frames.{range-each, payloads-one}
 
 -- something came of a frame that has an image
-pub image-come : (c : ClientSettings) (came : List Arrival) (f : ℕ) (image : List ℕ) → image_of c came f ≡ Some image → HasCome (taken c came) f
+pub image-come : (c : ClientSettings) (came : List Arrival) (f : ℕ) (image : List ℕ) → image_of c came f ≡ Some image → HasFrameCome (taken c came) f
 image-come c came f image is = λ none.
     let no : None ≡ Some image = sym (ap (image_behind c.stream (counting_of c came) f) none) ∙ is in
     cc

@@ -1,22 +1,22 @@
 -- A frame of which nothing came with one more datagram, and one of which nothing came at all.
 use Rattle.std.proofs.Common.{◌≡◌, ◌≢◌, ◌<◌, ◌≤◌, ◌+◌, ◌⊎◌, ℕ, zero, suc, Bool, true, false, ◌&&◌, List, [], ◌∷◌, length, Option, Some, None, refl, sym, ap}
 use Rattle.std.proofs.Common.{subst, ◌∙◌, arith, inl, inr}
-use Rattle.std.specs.Prelude.{◌==◌, if◌then◌else◌}
+use Rattle.std.specs.Prelude.{if◌then◌else◌}
 use Rattle.std.specs.List.{All, filter, list_all, range_with_len, slice_get}
-use Rattle.std.proofs.lemmas.Bool.{cases_Bool, cases_lt, cond-true, cond-false, eq-eqb, ne_eqb, and_left, and_parts, both_ways}
+use Rattle.std.proofs.lemmas.Bool.{cases_Bool, cases_lt, cond-true, cond-false, eq-eqb, ne_eqb, and_parts, both_ways}
 use Rattle.std.proofs.lemmas.Option.{slice_get_within, get_or_from_slice_get}
 use Rattle.gs_rtp.specs.Stream.{StreamSettings}
 use Rattle.gs_frames.specs.Client.{ClientSettings}
 use Rattle.gs_frames.specs.Received.{Received, greatest, is_left, oldest, is_of_frame, is_of_block}
-use Rattle.gs_frames.specs.Verdict.{first_or, has_all, is_block_whole, is_frame_whole, judged, is_counted, counting}
+use Rattle.gs_frames.specs.Verdict.{first_or, has_all, is_block_whole, is_frame_whole, judged, is_counting, counting}
 use Rattle.gs_frames.specs.Complete.{block_payloads, both, payloads}
-use Rattle.gs_frames.proofs.Counting.{NoneOf, NoneOf-from_oldest, NoneOf-counting, NoneOf-above, oldest_of_frame-none, oldest_of_block-none}
+use Rattle.gs_frames.proofs.Counting.{NoneOf, NoneOf-from_oldest, NoneOf-counting, NoneOf-above, oldest_of_frame-none, oldest_of_block-none, is_of_block-miss}
 use Rattle.gs_frames.proofs.Counting.{filter_of_block-none, oldest-miss, oldest-kept, oldest-new, oldest-none}
 use Rattle.gs_fecqueue.specs.declared.block.Block.{Block}
 use Rattle.gs_fecqueue.specs.declared.frame.Frame.{Frame}
 use Rattle.gs_fecqueue.specs.Holding.{HoldsBlock}
 use Rattle.gs_fecqueue.specs.FrameHolding.{HoldsBlockOf, HoldsBlocks, HoldsFrame, counted_behind, IsBegun}
-use Rattle.gs_fecqueue.specs.Standing.{HasCome, IsHeld}
+use Rattle.gs_fecqueue.specs.Standing.{HasFrameCome, IsHeld}
 use Rattle.gs_fecqueue.proofs.Frames.{filter-other, oldest-other, other-holds, range-each}
 
 -- ---- one more datagram of another frame
@@ -28,14 +28,11 @@ all-same p q a (suc n) same =
     ap (λ (b : Bool). b && list_all p (range_with_len (a + 1) n)) (same a)
     ∙ ap (λ (b : Bool). q a && b) (all-same p q (a + 1) n same)
 
-other-block : (f b : ℕ) (r : Received) → is_of_frame f r ≡ false → is_of_block f b r ≡ false
-other-block f b r other = and_left (r.head.frame == f) (r.head.block == b) other
-
 frame_whole-other : (counted : List Received) (f last : ℕ) (r : Received) → is_of_frame f r ≡ false
     → is_frame_whole (r ∷ counted) f last ≡ is_frame_whole counted f last
 frame_whole-other counted f last r other =
     all-same (is_block_whole (r ∷ counted) f) (is_block_whole counted f) 0 (last + 1) (λ b.
-    let miss = other-block f b r other in
+    let miss = is_of_block-miss f b r other in
     ap (λ (l : List Received). has_all l (oldest (is_of_block f b) (r ∷ counted))) (filter-other f b true r counted miss)
     ∙ ap (has_all (filter (is_of_block f b) counted)) (oldest-other f b true r counted miss))
 
@@ -43,7 +40,7 @@ payloads-other : (s : StreamSettings) (counted : List Received) (f n : ℕ) (r :
     → payloads s (r ∷ counted) f n ≡ payloads s counted f n
 payloads-other s counted f zero r other = refl
 payloads-other s counted f (suc n) r other =
-    let miss = other-block f n r other in
+    let miss = is_of_block-miss f n r other in
     let o = oldest (is_of_block f n) (r ∷ counted) in
     ap (λ (p : Option (List ℕ)). both p (block_payloads s (filter (is_of_block f n) (r ∷ counted)) o)) (payloads-other s counted f n r other)
     ∙ ap (λ (l : List Received). both (payloads s counted f n) (block_payloads s l o)) (filter-other f n true r counted miss)
@@ -57,7 +54,7 @@ frame-other s frame counted first true r other holds =
     record {
       holds = record {
         last = holds.holds.last;
-        blocks = λ b block e. other-holds s counted frame.number b true r block (other-block frame.number b r other) (holds.holds.blocks b block e);
+        blocks = λ b block e. other-holds s counted frame.number b true r block (is_of_block-miss frame.number b r other) (holds.holds.blocks b block e);
       };
       image = λ several whole.
           payloads-other s counted frame.number (last + 1) r other
@@ -67,7 +64,7 @@ frame-other s frame counted first true r other holds =
 -- ---- what counts with one more datagram
 
 pub counting-behind : (w : ℕ) (r : Received) (rs : List Received)
-    → counting w (r ∷ rs) ≡ counted_behind (is_counted (judged w r rs (counting w rs))) r (counting w rs)
+    → counting w (r ∷ rs) ≡ counted_behind (is_counting (judged w r rs (counting w rs))) r (counting w rs)
 unfolding counting
 counting-behind w r rs = refl
 
@@ -75,7 +72,7 @@ counting-behind w r rs = refl
 pub held-other : (c : ClientSettings) (rs : List Received) (frame : Frame) (r : Received) → is_of_frame frame.number r ≡ false → IsHeld c rs frame
     → IsHeld c (r ∷ rs) frame
 held-other c rs frame r other held =
-    let counts = is_counted (judged c.window r rs (counting c.window rs)) in
+    let counts = is_counting (judged c.window r rs (counting c.window rs)) in
     let Holds : List Received → Type 0 = λ l. HoldsFrame c.stream frame l held.first in
     record {
       first = held.first;
@@ -85,7 +82,7 @@ held-other c rs frame r other held =
 
 -- and when one comes that doesn't count
 pub held-passed : (c : ClientSettings) (rs : List Received) (frame : Frame) (r : Received)
-    → is_counted (judged c.window r rs (counting c.window rs)) ≡ false → IsHeld c rs frame → IsHeld c (r ∷ rs) frame
+    → is_counting (judged c.window r rs (counting c.window rs)) ≡ false → IsHeld c rs frame → IsHeld c (r ∷ rs) frame
 held-passed c rs frame r passed held =
     let same : counting c.window (r ∷ rs) ≡ counting c.window rs =
     counting-behind c.window r rs ∙ ap (λ (b : Bool). counted_behind b r (counting c.window rs)) passed in
@@ -98,10 +95,10 @@ held-passed c rs frame r passed held =
 
 -- ---- what came of a frame
 
-pub come-other : (rs : List Received) (f : ℕ) (r : Received) → is_of_frame f r ≡ false → HasCome (r ∷ rs) f → HasCome rs f
+pub come-other : (rs : List Received) (f : ℕ) (r : Received) → is_of_frame f r ≡ false → HasFrameCome (r ∷ rs) f → HasFrameCome rs f
 come-other rs f r other came = λ none. came (oldest-miss (is_of_frame f) r rs other ∙ none)
 
-pub come-within : (rs : List Received) (f : ℕ) → HasCome rs f → f ≤ greatest rs
+pub come-within : (rs : List Received) (f : ℕ) → HasFrameCome rs f → f ≤ greatest rs
 come-within rs f came = elim (cases_lt (greatest rs) f) [
   | inl above ↦ absurd (came (oldest_of_frame-none f rs (NoneOf-above rs f above)))
   | inr within ↦ within

@@ -20,7 +20,7 @@ use Rattle.gs_rtp.specs.Stream.{StreamSettings}
 use Rattle.gs_frames.specs.Shards.{packet_header, payload_of}
 use Rattle.gs_frames.specs.Received.{Received}
 use Rattle.gs_frames.specs.Complete.{held_shard, code_of, joined_payloads}
-use Rattle.gs_fecqueue.specs.Places.{total_of, kept_payload, AreShards}
+use Rattle.gs_fecqueue.specs.Places.{shard_total, kept_payload, AreShards}
 
 -- a shard by what is kept of it
 abbrev payload_shard : Received → HeldShard

@@ -7,7 +7,7 @@ use Rattle.std.proofs.lemmas.Bool.{cases_eq, cases_lt, cond-true, cond-false, eq
 use Rattle.std.proofs.lemmas.Option.{slice_get-get_or, slice_get_past, slice_get_within}
 use Rattle.gs_fecqueue.specs.QueueSteps.{swapped}
 use Rattle.gs_fecqueue.specs.Standing.{rooms}
-use Rattle.gs_fecqueue.proofs.Frames.{element}
+use Rattle.gs_bytes.proofs.Lists.{some_within}
 
 -- ---- two change places
 
@@ -41,7 +41,7 @@ swapped-apart i j k l apart e = apart (sym (swapped-twice i j k) ∙ ap (swapped
 pub swapped-get : {X : Type 0} (xs ys : List X) (i j k : ℕ) → length ys ≡ length xs → i < length xs → j < length xs → SwappedAt xs ys i j
     → slice_get ys k ≡ slice_get xs (swapped i j k)
 swapped-get xs ys i j k size in_i in_j swaps =
-    let d = (element xs i in_i).0 in
+    let d = (some_within xs i in_i).0 in
     elim (cases_lt k (length xs)) [
       | inr past ↦
           let e = swapped-other i j k (λ e. absurd (omega arith)) (λ e. absurd (omega arith)) in

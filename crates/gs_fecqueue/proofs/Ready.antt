@@ -8,13 +8,13 @@ use Rattle.std.proofs.lemmas.Nat.{mod_below}
 use Rattle.std.proofs.lemmas.Option.{slice_get_within}
 use Rattle.gs_frames.specs.Client.{ClientSettings}
 use Rattle.gs_frames.specs.Received.{Received, greatest, is_left, oldest, is_of_frame}
-use Rattle.gs_frames.specs.Verdict.{first_or, is_counted, judged, counting}
+use Rattle.gs_frames.specs.Verdict.{first_or, is_counting, judged, counting}
 use Rattle.gs_frames.proofs.Counting.{greatest-new, greatest-kept}
 use Rattle.gs_frames.proofs.SettledUp.{greatest-grows, left-not_says}
 use Rattle.gs_fecqueue.specs.declared.frame.Frame.{Frame}
 use Rattle.gs_fecqueue.specs.declared.queue.Queue.{Queue}
 use Rattle.gs_fecqueue.specs.FrameHolding.{HoldsFrame, counted_behind, IsBegun}
-use Rattle.gs_fecqueue.specs.Standing.{is_at_hand, HasCome, IsHeld, IsAt, IsAmong, rooms, IsStanding}
+use Rattle.gs_fecqueue.specs.Standing.{is_at_hand, HasFrameCome, IsHeld, IsAt, IsAmong, rooms, IsStanding}
 use Rattle.gs_fecqueue.specs.QueueSteps.{swapped, HasSettingsOf, IsAdvanced, IsOpened}
 use Rattle.gs_fecqueue.proofs.Frames.{set-get, get-set_same, get-set_other}
 use Rattle.gs_fecqueue.proofs.OtherFrames.{counting-behind, held-other, come-other, come-within, first-with, begun-holds}
@@ -44,10 +44,10 @@ pub record IsReadyFor (q : Queue) (c : ClientSettings) (now : List Received) (r 
       (i j : ℕ) (a b : Frame) → i ≢ r.head.frame % c.window → j ≢ r.head.frame % c.window
       → slice_get q.frames.items i ≡ Some a → slice_get q.frames.items j ≡ Some b → i ≢ j → 0 < a.number → a.number ≢ b.number
   pub open_frames :
-      (f : ℕ) → f ≢ r.head.frame → greatest (r ∷ now) < f + c.window → HasCome now f
+      (f : ℕ) → f ≢ r.head.frame → greatest (r ∷ now) < f + c.window → HasFrameCome now f
       → (f % c.window ≢ r.head.frame % c.window) × IsAt q.frames.items (f % c.window) f
   pub at_hand :
-      (f : ℕ) → f ≢ r.head.frame → is_at_hand c.window now (r ∷ now) f ≡ true → HasCome now f
+      (f : ℕ) → f ≢ r.head.frame → is_at_hand c.window now (r ∷ now) f ≡ true → HasFrameCome now f
       → IsElsewhere q.frames.items (r.head.frame % c.window) f
 
 -- ---- going on
@@ -135,7 +135,7 @@ not_come q0 q1 c before now r None step other e = e
 not_come q0 q1 c before now r (Some first) step other e =
     let g = r.head.frame in
     let p = g % c.window in
-    let came : HasCome now g = λ none. let no : Some first ≡ None = sym e ∙ none in cc in
+    let came : HasFrameCome now g = λ none. let no : Some first ≡ None = sym e ∙ none in cc in
     let within = come-within now g came in
     let at = step.stands.open_frames g step.near came in
     let kept = source-kept q0 g p (omega (arith, step.stands.is_greatest)) in
@@ -188,7 +188,7 @@ has-several w f now r hand within more = elim (or_cases (not (is_left w (r ∷ n
 
 -- where an open frame stood, and stands
 stood-at : (q0 q1 q2 : Queue) (c : ClientSettings) (before now : List Received) (r : Received) (f : ℕ) → IsStep q0 q1 c before now r
-    → IsOpened q1 q2 r.head.frame r.head.last_block → f ≢ r.head.frame → HasCome now f → greatest now < f + c.window
+    → IsOpened q1 q2 r.head.frame r.head.last_block → f ≢ r.head.frame → HasFrameCome now f → greatest now < f + c.window
     → f % c.window ≢ r.head.frame % c.window → (q0.greatest < r.head.frame → 1 < c.window) → IsAt q2.frames.items (f % c.window) f
 stood-at q0 q1 q2 c before now r f step opened other came near apart several =
     let stands = step.stands in
@@ -207,7 +207,7 @@ stood-at q0 q1 q2 c before now r f step opened other came near apart several =
 
 -- the frame whose place r's frame took stands last
 stood-last : (q0 q1 q2 : Queue) (c : ClientSettings) (before now : List Received) (r : Received) (f : ℕ) → IsStep q0 q1 c before now r
-    → IsOpened q1 q2 r.head.frame r.head.last_block → HasCome now f → greatest now < f + c.window
+    → IsOpened q1 q2 r.head.frame r.head.last_block → HasFrameCome now f → greatest now < f + c.window
     → f % c.window ≡ r.head.frame % c.window → q0.greatest < r.head.frame → 1 < c.window → IsElsewhere q2.frames.items (r.head.frame % c.window) f
 stood-last q0 q1 q2 c before now r f step opened came near same more several =
     let stands = step.stands in
@@ -288,7 +288,7 @@ ready q0 q1 q2 c before now r stands not_left least advanced opened =
 -- ---- and has taken the datagram
 
 pub stands-with : (q2 q3 : Queue) (c : ClientSettings) (now : List Received) (r : Received) (place : ℕ) (new : Frame) → IsReadyFor q2 c now r
-    → 1 ≤ r.head.frame → ((f : ℕ) → HasCome now f → 1 ≤ f) → place ≡ r.head.frame % c.window
+    → 1 ≤ r.head.frame → ((f : ℕ) → HasFrameCome now f → 1 ≤ f) → place ≡ r.head.frame % c.window
     → q3.packet ≡ q2.packet → q3.ssrc ≡ q2.ssrc → q3.window ≡ q2.window → q3.greatest ≡ q2.greatest
     → q3.frames.items ≡ set q2.frames.items place new → length q3.frames.items ≡ length q2.frames.items → new.number ≡ r.head.frame
     → HoldsFrame c.stream new (counting c.window (r ∷ now)) (first_or r (oldest (is_of_frame r.head.frame) now))

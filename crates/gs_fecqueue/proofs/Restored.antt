@@ -22,7 +22,7 @@ use Rattle.gs_rtp.proofs.VideoHeads.{parity_count-zero}
 use Rattle.gs_frames.specs.Shards.{payload_of}
 use Rattle.gs_frames.specs.Received.{Received}
 use Rattle.gs_frames.specs.Complete.{code_of, joined_payloads}
-use Rattle.gs_fecqueue.specs.Places.{total_of, kept_payload, AreShards, HasFlagsOf, HasPlaced}
+use Rattle.gs_fecqueue.specs.Places.{shard_total, kept_payload, AreShards, HasFlagsOf, HasPlaced}
 use Rattle.gs_fecqueue.proofs.Counted.{among-held, count-flags}
 use Rattle.gs_rs.proofs.Flags.{count-before}
 use Rattle.gs_fecqueue.proofs.Payloads.{joined-is}
@@ -64,20 +64,20 @@ restored-joined s held first present before after is are has full placed some =
 
 -- a code that can't be is that of a block without parity
 pub bare-joined : (s : StreamSettings) (held : List Received) (first : Received) (bytes : List ℕ)
-    → AreShards held first → length held ≡ first.head.shards → (first.head.shards ≡ 0) ⊎ (255 < total_of first.head)
-    → total_of first.head * payload_of s ≤ length bytes → All IsByte bytes → HasPlaced (payload_of s) bytes held
+    → AreShards held first → length held ≡ first.head.shards → (first.head.shards ≡ 0) ⊎ (255 < shard_total first.head)
+    → shard_total first.head * payload_of s ≤ length bytes → All IsByte bytes → HasPlaced (payload_of s) bytes held
     → take (first.head.shards * payload_of s) bytes ≡ joined_payloads s held first
 bare-joined s held first bytes are full none room all_bytes placed =
     let size = payload_of s in
     let d = first.head.shards in
     let least : 1 ≤ d = are.grammar.shards_least in
-    let many : 255 < total_of first.head = elim none [ inl zero_is ↦ absurd (omega arith) | inr many ↦ many ] in
+    let many : 255 < shard_total first.head = elim none [ inl zero_is ↦ absurd (omega arith) | inr many ↦ many ] in
     let bare : first.head.percentage ≡ 0 = elim (cases_lt 0 first.head.percentage) [
       | inl coded ↦ absurd (omega (arith, are.grammar.codable coded))
       | inr h ↦ omega arith
     ] in
     let no_parity : parity_count d first.head.percentage ≡ 0 = ap (parity_count d) bare ∙ parity_count-zero d in
-    let same_total : total_of first.head ≡ d = omega arith in
+    let same_total : shard_total first.head ≡ d = omega arith in
     let data_room : d * size ≤ length bytes = omega (arith, ap (λ (n : ℕ). n * size) same_total) in
     let block = take (d * size) bytes in
     let is_block : IsBlock (code_of first) size block =
@@ -100,10 +100,10 @@ coded-joined s held first present bytes after rest size shards code result size_
     let d = first.head.shards in
     let total = length present in
     let part = take (total * size) bytes in
-    let count : total ≡ total_of first.head = has.count in
+    let count : total ≡ shard_total first.head = has.count in
     let counts : total - shards ≡ parity_count d first.head.percentage = omega arith in
     let code_is : code ≡ code_of first = code_made ∙ ap (λ (m : ℕ). video_code m (total - shards)) shards_are ∙ ap (video_code d) counts in
-    let fits : total_of first.head ≤ 255 = elim (cases_lt 255 (total_of first.head)) [
+    let fits : shard_total first.head ≤ 255 = elim (cases_lt 255 (shard_total first.head)) [
       | inl many ↦ absurd (good (inr (omega arith)))
       | inr fits ↦ fits
     ] in

@@ -18,11 +18,11 @@ use Rattle.gs_frames.specs.declared.verdict.Why.TheVariants.{Shape as OtherShape
 use Rattle.gs_frames.specs.declared.verdict.Shape.{Shape}
 use Rattle.gs_frames.specs.Shards.{payload_of}
 use Rattle.gs_frames.specs.Received.{Received}
-use Rattle.gs_frames.specs.Verdict.{shape_came, first_or, is_same_shape, has_all, is_counted}
+use Rattle.gs_frames.specs.Verdict.{shape_came, first_or, is_same_shape, has_all, is_counting}
 use Rattle.gs_frames.specs.Complete.{joined_payloads}
 use Rattle.gs_fecqueue.specs.declared.block.Block.{Block}
-use Rattle.gs_fecqueue.specs.Places.{total_of, kept_payload, is_shard_held, AreShards, HasPlaced}
-use Rattle.gs_fecqueue.specs.Holding.{data_of, IsRoomOf, ArePlaced, IsReady, IsJoined, HoldsShards, HoldsBlock, Brings}
+use Rattle.gs_fecqueue.specs.Places.{shard_total, kept_payload, is_shard_held, AreShards, HasPlaced}
+use Rattle.gs_fecqueue.specs.Holding.{data_of_block, IsRoomOf, ArePlaced, IsBlockReady, IsJoined, HoldsShards, HoldsBlock, Brings}
 use Rattle.gs_fecqueue.specs.Steps.{HasCountsOf, IsStarted, IsPut, KeepsHeld}
 use Rattle.gs_fecqueue.specs.BlockVerdict.{shape_in, made_block_whole, block_verdict, held_behind, first_behind}
 use Rattle.gs_fecqueue.proofs.Counted.{apart-among}
@@ -30,21 +30,21 @@ use Rattle.gs_fecqueue.proofs.Counted.{apart-among}
 -- ---- one shard joins those that are held
 
 pub join-are : (s : StreamSettings) (b0 : Block) (held : List Received) (first r : Received) (index : ℕ) (payload : List ℕ)
-    → IsReady s b0 held first → IsJoined s held first r index payload → AreShards (r ∷ held) first
+    → IsBlockReady s b0 held first → IsJoined s held first r index payload → AreShards (r ∷ held) first
 join-are s b0 held first r index payload ready joins =
     let are = ready.are in
     let Missing : ℕ → Type 0 = λ i. is_shard_held held i ≡ false in
-    let within : r.head.index < total_of first.head = omega (arith, joins.index_is, joins.within) in
+    let within : r.head.index < shard_total first.head = omega (arith, joins.index_is, joins.within) in
     record {
       grammar = are.grammar;
       enough = omega (arith, ready.few);
-      indices = All-cons (λ t. t.head.index < total_of first.head) r held within are.indices;
+      indices = All-cons (λ t. t.head.index < shard_total first.head) r held within are.indices;
       distinct = AllPairs-cons (λ t u. t.head.index ≢ u.head.index) r held
           (apart-among r.head.index held (subst Missing (sym joins.index_is) joins.missing)) are.distinct;
     }
 
 pub join-room : (s : StreamSettings) (b0 b1 : Block) (held : List Received) (first r : Received) (index : ℕ) (payload : List ℕ)
-    → IsReady s b0 held first → IsJoined s held first r index payload → IsPut b0 b1 index payload → index < length b0.present.items
+    → IsBlockReady s b0 held first → IsJoined s held first r index payload → IsPut b0 b1 index payload → index < length b0.present.items
     → IsRoomOf b1 (r ∷ held) first
 join-room s b0 b1 held first r index payload ready joins put there =
     let room = ready.room in
@@ -66,7 +66,7 @@ join-room s b0 b1 held first r index payload ready joins put there =
     }
 
 pub join-placed : (s : StreamSettings) (b0 b1 : Block) (held : List Received) (first r : Received) (index : ℕ) (payload : List ℕ)
-    → IsReady s b0 held first → IsJoined s held first r index payload → IsPut b0 b1 index payload
+    → IsBlockReady s b0 held first → IsJoined s held first r index payload → IsPut b0 b1 index payload
     → ArePlaced s b1 (r ∷ held)
 join-placed s b0 b1 held first r index payload ready joins put =
     let size = payload_of s in
@@ -117,7 +117,7 @@ verdict-counts last r held first same missing few =
     ∙ cond-false (is_shard_held held r.head.index) Repeat spare missing
     ∙ cond-false (nat_le r.head.shards (length held)) Spare made (lt-leb r.head.shards (length held) few)
 
-counted-made : (b : Bool) → is_counted (made_block_whole b) ≡ true
+counted-made : (b : Bool) → is_counting (made_block_whole b) ≡ true
 counted-made true = refl
 counted-made false = refl
 
@@ -127,14 +127,14 @@ counted-made false = refl
 abbrev pub HoldGives : Block → Block → ℕ → List ℕ → Added → Type 0
 HoldGives before after index payload result =
     (s : StreamSettings) (held : List Received) (first r : Received)
-    → IsReady s before held first → IsJoined s held first r index payload
+    → IsBlockReady s before held first → IsJoined s held first r index payload
     → (result ≡ made_block_whole (length (r ∷ held) == first.head.shards)) × HoldsShards s after (r ∷ held) first
 
 -- what is to be shown
 abbrev pub TakeGives : StreamSettings → Block → ℕ → List Received → Option Received → Received → Added → Type 0
 TakeGives s after last held first r result =
     (result ≡ block_verdict last r held first)
-    × HoldsBlock s after (held_behind (is_counted result) r held) (first_behind (is_counted result) r first)
+    × HoldsBlock s after (held_behind (is_counting result) r held) (first_behind (is_counting result) r first)
 
 gives : (s : StreamSettings) (after : Block) (last : ℕ) (held : List Received) (first : Option Received) (r : Received) (result : Added)
     → shape_in last r first ≡ shape_came r → is_shard_held held r.head.index ≡ false → length held < r.head.shards
@@ -142,13 +142,13 @@ gives : (s : StreamSettings) (after : Block) (last : ℕ) (held : List Received)
     → result ≡ made_block_whole (length (r ∷ held) == (first_or r first).head.shards) → HoldsShards s after (r ∷ held) (first_or r first)
     → TakeGives s after last held first r result
 gives s after last held first r result same missing few shards is holds =
-    let counted : is_counted result ≡ true = ap is_counted is ∙ counted-made (length (r ∷ held) == (first_or r first).head.shards) in
+    let counted : is_counting result ≡ true = ap is_counting is ∙ counted-made (length (r ∷ held) == (first_or r first).head.shards) in
     let Holds : Bool → Type 0 = λ b. HoldsBlock s after (held_behind b r held) (first_behind b r first) in
     (is ∙ sym (verdict-counts last r held first same missing few), subst Holds (sym counted) holds)
 
 -- the first of its block
 started-ready : (s : StreamSettings) (b1 : Block) (head : VideoHead) (payload : List ℕ) (r : Received) → IsVideoHead head → IsStarted b1 head
-    → Brings s head payload r → IsReady s b1 [] r
+    → Brings s head payload r → IsBlockReady s b1 [] r
 started-ready s b1 head payload r grammar started brings =
     let e = brings.head_is in
     let IsHead : VideoHead → Type 0 = IsVideoHead in
@@ -157,15 +157,15 @@ started-ready s b1 head payload r grammar started brings =
       are = record {
         grammar = is_head;
         enough = omega arith;
-        indices = All-nil (λ t. t.head.index < total_of r.head);
+        indices = All-nil (λ t. t.head.index < shard_total r.head);
         distinct = λ i j d less h. absurd (omega arith);
       };
       room = record {
         shards = started.shards ∙ ap (λ (h : VideoHead). h.shards) (sym e);
         percentage = started.percentage ∙ ap (λ (h : VideoHead). h.percentage) (sym e);
-        total = started.total ∙ ap total_of (sym e);
+        total = started.total ∙ ap shard_total (sym e);
         count = started.count;
-        flags = λ i h. started.flags i (omega (arith, ap total_of e));
+        flags = λ i h. started.flags i (omega (arith, ap shard_total e));
       };
       few = omega (arith, is_head.shards_least);
       placed = All-nil (λ t. shard_of (payload_of s) b1.bytes.items t.head.index ≡ kept_payload t);
@@ -225,7 +225,7 @@ record SaysSame (last : ℕ) (head : VideoHead) (f r : Received) : Type 0 where
   shapes : shape_in last r (Some f) ≡ shape_came r
   shards : f.head.shards ≡ r.head.shards
   index : r.head.index ≡ head.index
-  within : head.index < total_of f.head
+  within : head.index < shard_total f.head
 
 says-same : (s : StreamSettings) (b0 : Block) (head : VideoHead) (last : ℕ) (payload : List ℕ) (held : List Received) (f r : Received)
     → IsVideoHead head → said_by_room last b0 ≡ said_by_head head → IsRoomOf b0 held f → Brings s head payload r → SaysSame last head f r
@@ -236,7 +236,7 @@ says-same s b0 head last payload held f r grammar same room brings =
     let percentage : f.head.percentage ≡ r.head.percentage =
     sym room.percentage ∙ ap (λ (x : Shape). x.percentage) same ∙ ap (λ (h : VideoHead). h.percentage) (sym e) in
     let last_is : last ≡ r.head.last_block = ap (λ (x : Shape). x.last_block) same ∙ ap (λ (h : VideoHead). h.last_block) (sym e) in
-    let totals : total_of f.head ≡ total_of head =
+    let totals : shard_total f.head ≡ shard_total head =
     ap (λ (n : ℕ). n + parity_count n f.head.percentage) (shards ∙ ap (λ (h : VideoHead). h.shards) e)
     ∙ ap (λ (q : ℕ). head.shards + parity_count head.shards q) (percentage ∙ ap (λ (h : VideoHead). h.percentage) e) in
     record {
@@ -260,7 +260,7 @@ taken-more s b0 b2 head last payload result held (Some f) r grammar some same mi
     let says = says-same s b0 head last payload held f r grammar same room brings in
     let not_there : is_shard_held held head.index ≡ false = sym (room.flags head.index says.within) ∙ missing in
     let less : length held < f.head.shards = omega (arith, room.count, room.shards) in
-    let ready : IsReady s b0 held f = record { are = holds.are; room = room; few = less; placed = holds.placed less } in
+    let ready : IsBlockReady s b0 held f = record { are = holds.are; room = room; few = less; placed = holds.placed less } in
     let joins : IsJoined s held f r head.index payload = record {
       index_is = says.index;
       within = says.within;

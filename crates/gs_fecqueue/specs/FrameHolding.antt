@@ -14,7 +14,7 @@ use Rattle.gs_frames.specs.Verdict.{is_frame_whole, made_whole}
 use Rattle.gs_frames.specs.Complete.{payloads}
 use Rattle.gs_fecqueue.specs.declared.block.Block.{Block}
 use Rattle.gs_fecqueue.specs.declared.frame.Frame.{Frame}
-use Rattle.gs_fecqueue.specs.Holding.{data_of, HoldsBlock}
+use Rattle.gs_fecqueue.specs.Holding.{data_of_block, HoldsBlock}
 
 -- as many shards are held as the block has data shards
 abbrev pub is_whole_room : Block → Bool
@@ -41,7 +41,7 @@ pub record HoldsFrame (s : StreamSettings) (frame : Frame) (counted : List Recei
 -- the data of the first of these blocks
 abbrev pub first_data : ℕ → List Block → List ℕ
 first_data size [] = []
-first_data size (block ∷ blocks) = data_of size block
+first_data size (block ∷ blocks) = data_of_block size block
 
 -- what stands where the image is
 abbrev pub image_held : ℕ → Frame → List ℕ

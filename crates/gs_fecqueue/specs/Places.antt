@@ -9,8 +9,8 @@ use Rattle.gs_frames.specs.Shards.{packet_header}
 use Rattle.gs_frames.specs.Received.{Received}
 
 -- how many shards a block has whose datagrams have this head
-abbrev pub total_of : VideoHead → ℕ
-total_of head = head.shards + parity_count head.shards head.percentage
+abbrev pub shard_total : VideoHead → ℕ
+shard_total head = head.shards + parity_count head.shards head.percentage
 
 -- what is kept of a shard
 abbrev pub kept_payload : Received → List ℕ
@@ -25,13 +25,13 @@ is_shard_held held index = list_any (λ r. r.head.index == index) held
 pub record AreShards (held : List Received) (first : Received) : Type 0 where
   pub grammar : IsVideoHead first.head
   pub enough : length held ≤ first.head.shards
-  pub indices : All (λ r. r.head.index < total_of first.head) held
+  pub indices : All (λ r. r.head.index < shard_total first.head) held
   pub distinct : AllPairs (λ r t. r.head.index ≢ t.head.index) held
 
 -- a flag for each shard of the block, set where it is held
 pub record HasFlagsOf (flags : List Bool) (held : List Received) (first : Received) : Type 0 where
-  pub count : length flags ≡ total_of first.head
-  pub each : (i : ℕ) → i < total_of first.head → slice_index_or flags i false ≡ is_shard_held held i
+  pub count : length flags ≡ shard_total first.head
+  pub each : (i : ℕ) → i < shard_total first.head → slice_index_or flags i false ≡ is_shard_held held i
 
 -- each of them stands at its place, where payloads have this size
 abbrev pub HasPlaced : ℕ → List ℕ → List Received → Type 0

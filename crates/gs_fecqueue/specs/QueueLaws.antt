@@ -6,13 +6,13 @@ use Rattle.gs_frames.specs.Received.{Received, IsReceived, taken}
 use Rattle.gs_frames.specs.Verdict.{verdict}
 use Rattle.gs_frames.specs.VerdictLaws.{image_of}
 use Rattle.gs_fecqueue.specs.declared.queue.Queue.{Queue}
-use Rattle.gs_fecqueue.specs.Standing.{is_at_hand, StandsFor}
+use Rattle.gs_fecqueue.specs.Standing.{is_at_hand, IsQueueOf}
 
 -- A reset changes nothing for it.
 abbrev pub ResetChangesNothing : Type 0
 ResetChangesNothing =
-    (q : Queue) (client : ClientSettings) (came : List Arrival) → StandsFor q client came
-    → StandsFor q client (Reset ∷ came)
+    (q : Queue) (client : ClientSettings) (came : List Arrival) → IsQueueOf q client came
+    → IsQueueOf q client (Reset ∷ came)
 
 -- the frame of this datagram has an image, which is at hand
 pub record HasImageAtHand (client : ClientSettings) (came : List Arrival) (bytes : List ℕ) : Type 0 where

@@ -21,8 +21,8 @@ all_but_last [] = []
 all_but_last (arrival ∷ came) = came
 
 -- something came of the frame
-abbrev pub HasCome : List Received → ℕ → Type 0
-HasCome rs frame = oldest (is_of_frame frame) rs ≢ None
+abbrev pub HasFrameCome : List Received → ℕ → Type 0
+HasFrameCome rs frame = oldest (is_of_frame frame) rs ≢ None
 
 -- what counts of the frame is held
 pub record IsHeld (client : ClientSettings) (rs : List Received) (frame : Frame) : Type 0 where
@@ -53,7 +53,7 @@ pub record IsStanding (q : Queue) (client : ClientSettings) (before now : List R
   pub window : q.window ≡ client.window
   pub count : length q.frames.items ≡ rooms client.window
   pub is_greatest : q.greatest ≡ greatest now
-  pub least : (f : ℕ) → HasCome now f → 1 ≤ f
+  pub least : (f : ℕ) → HasFrameCome now f → 1 ≤ f
   pub each :
       (i : ℕ) (frame : Frame) → slice_get q.frames.items i ≡ Some frame → 0 < frame.number
       → IsHeld client now frame
@@ -61,10 +61,10 @@ pub record IsStanding (q : Queue) (client : ClientSettings) (before now : List R
       (i j : ℕ) (a b : Frame) → slice_get q.frames.items i ≡ Some a → slice_get q.frames.items j ≡ Some b → i ≢ j
       → 0 < a.number → a.number ≢ b.number
   pub open_frames :
-      (f : ℕ) → greatest now < f + client.window → HasCome now f → IsAt q.frames.items (f % client.window) f
+      (f : ℕ) → greatest now < f + client.window → HasFrameCome now f → IsAt q.frames.items (f % client.window) f
   pub at_hand :
-      (f : ℕ) → is_at_hand client.window before now f ≡ true → HasCome now f → IsAmong q.frames.items f
+      (f : ℕ) → is_at_hand client.window before now f ≡ true → HasFrameCome now f → IsAmong q.frames.items f
 
 -- It stands for all that the client was given.
-abbrev pub StandsFor : Queue → ClientSettings → List Arrival → Type 0
-StandsFor q client came = IsStanding q client (taken client (all_but_last came)) (taken client came)
+abbrev pub IsQueueOf : Queue → ClientSettings → List Arrival → Type 0
+IsQueueOf q client came = IsStanding q client (taken client (all_but_last came)) (taken client came)

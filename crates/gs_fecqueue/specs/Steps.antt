@@ -3,15 +3,15 @@ use Rattle.std.specs.Prelude.{ℕ, ◌≡◌, ◌≢◌, ◌+◌, ◌<◌, true,
 use Rattle.gs_rs.specs.Codeword.{shard_of}
 use Rattle.gs_rtp.specs.declared.video.VideoHead.{VideoHead}
 use Rattle.gs_fecqueue.specs.declared.block.Block.{Block}
-use Rattle.gs_fecqueue.specs.Places.{total_of}
+use Rattle.gs_fecqueue.specs.Places.{shard_total}
 
 -- it has the counts of another block, of which nothing is held
 pub record IsStarted (after : Block) (head : VideoHead) : Type 0 where
   pub shards : after.shards ≡ head.shards
   pub percentage : after.percentage ≡ head.percentage
-  pub total : after.total ≡ total_of head
+  pub total : after.total ≡ shard_total head
   pub count : after.held ≡ 0
-  pub flags : (i : ℕ) → i < total_of head → slice_index_or after.present.items i false ≡ false
+  pub flags : (i : ℕ) → i < shard_total head → slice_index_or after.present.items i false ≡ false
 
 -- its counts are as before
 pub record HasCountsOf (before after : Block) : Type 0 where

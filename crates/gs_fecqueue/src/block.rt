@@ -64,8 +64,10 @@ pub(crate) struct Block {
 impl Block {
     ghost use Rattle.std.specs.Prelude.{Option, not, ◌∷◌, ◌&&◌, ◌==◌, if◌then◌else◌};
     ghost use Rattle.gs_rtp.specs.Video.{IsVideoHead};
-    ghost use Rattle.gs_frames.specs.Verdict.{is_counted};
-    ghost use Rattle.gs_fecqueue.specs.Holding.{data_of, IsRoomOf, ArePlaced, IsReady, IsJoined, HoldsShards, HoldsBlock, Brings};
+    ghost use Rattle.gs_frames.specs.Verdict.{is_counting};
+    ghost use Rattle.gs_fecqueue.specs.Holding.{data_of_block, IsRoomOf, ArePlaced, IsBlockReady, IsJoined};
+    ghost use Rattle.gs_fecqueue.specs.Holding.{HoldsShards};
+    ghost use Rattle.gs_fecqueue.specs.Holding.{HoldsBlock, Brings};
     ghost use Rattle.gs_fecqueue.specs.BlockVerdict.{made_block_whole, block_verdict, held_behind, first_behind};
     ghost use Rattle.gs_fecqueue.specs.Steps.{IsStarted, IsPut, KeepsHeld};
 
@@ -98,7 +100,7 @@ impl Block {
     // The payloads of its data shards.
     pub(crate) fn data(&self, size: usize) -> &[u8]
         requires { size ≤ most_payload }
-        ensures { result.now ≡ data_of size self.now }
+        ensures { result.now ≡ data_of_block size self.now }
     {
         &self.bytes[..usize::from(self.shards) * size]
     }
@@ -112,8 +114,8 @@ impl Block {
             → result ≡ block_verdict last_block r held first }
         ensures holds { (s : StreamSettings) (held : List Received) (first : Option Received) (r : Received)
             → HoldsBlock s self.old held first → Brings s head.now payload.now r
-            → HoldsBlock s self.new (held_behind (is_counted result) r held)
-            (first_behind (is_counted result) r first) }
+            → HoldsBlock s self.new (held_behind (is_counting result) r held)
+            (first_behind (is_counting result) r first) }
     {
         let had = self.shape_had(head, last_block);
         let came = shape_of(head);
@@ -171,7 +173,7 @@ impl Block {
         requires size { length payload.now ≤ most_payload }
         requires more { self.old.held < self.old.shards }
         ensures { (s : StreamSettings) (held : List Received) (first r : Received)
-            → IsReady s self.old held first → IsJoined s held first r index payload.now
+            → IsBlockReady s self.old held first → IsJoined s held first r index payload.now
             → (result ≡ made_block_whole (length (r ∷ held) == first.head.shards))
             × HoldsShards s self.new (r ∷ held) first }
     {
@@ -202,7 +204,7 @@ impl Block {
         ensures kept { KeepsHeld self.old self.new }
         ensures data { (s : StreamSettings) (held : List Received) (first : Received) → payload_of s ≡ size
             → AreShards held first → IsRoomOf self.old held first → ArePlaced s self.old held
-            → length held ≡ first.head.shards → data_of size self.new ≡ joined_payloads s held first }
+            → length held ≡ first.head.shards → data_of_block size self.new ≡ joined_payloads s held first }
     {
         let total = usize::from(self.total);
         let data = usize::from(self.shards);
@@ -212,7 +214,11 @@ impl Block {
 
 // What a datagram says of its frame and its block.
 fn shape_of(head: &VideoHead) -> Shape
-    ensures { result ≡ record { last_block = head.now.last_block; shards = head.now.shards; percentage = head.now.percentage } }
+    ensures { result ≡ record {
+      last_block = head.now.last_block;
+      shards = head.now.shards;
+      percentage = head.now.percentage;
+    } }
 {
     Shape {
         last_block: head.last_block,

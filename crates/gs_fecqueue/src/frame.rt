@@ -9,11 +9,8 @@ use crate::block::{Block, DATA_GREATEST};
 use crate::join::{clear_blocks, join};
 use gs_bytes::OutOfMemory;
 use gs_frames::Added;
-use gs_rtp::{LAST_BLOCK_GREATEST, VideoHead};
+use gs_rtp::{BLOCKS_GREATEST, VideoHead};
 use std::alloc::Global;
-
-// The most blocks of a frame.
-pub(crate) const BLOCKS_GREATEST: usize = LAST_BLOCK_GREATEST as usize + 1;
 
 // What came of a frame, by its number, 0 where there is none. One block is the image itself; that of several blocks
 // stands beside them.
@@ -34,7 +31,7 @@ impl Frame {
     ghost use Rattle.gs_rtp.specs.Stream.{StreamSettings};
     ghost use Rattle.gs_rtp.specs.Video.{IsVideoHead};
     ghost use Rattle.gs_frames.specs.Received.{Received};
-    ghost use Rattle.gs_frames.specs.Verdict.{is_counted};
+    ghost use Rattle.gs_frames.specs.Verdict.{is_counting};
     ghost use Rattle.gs_frames.specs.Shards.{payload_of};
     ghost use Rattle.gs_fecqueue.specs.Holding.{Brings};
     ghost use Rattle.gs_fecqueue.specs.FrameHolding.{
@@ -85,7 +82,7 @@ impl Frame {
             → result ≡ frame_verdict first r counted }
         ensures holds { (s : StreamSettings) (counted : List Received) (first r : Received)
             → HoldsFrame s self.old counted first → r.head.frame ≡ self.old.number → Brings s head.now payload.now r
-            → HoldsFrame s self.new (counted_behind (is_counted result) r counted) first }
+            → HoldsFrame s self.new (counted_behind (is_counting result) r counted) first }
     {
         match self.blocks[usize::from(head.block)].take(head, self.last_block, payload) {
             Added::BlockWhole => self.complete(payload.len()),

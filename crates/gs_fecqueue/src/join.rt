@@ -2,7 +2,7 @@
 
 ghost use Rattle.std.specs.Prelude.{◌≡◌, ◌≤◌, length, All, vec_capacity};
 ghost use Rattle.std.specs.List.{flat_map};
-ghost use Rattle.gs_fecqueue.specs.Holding.{data_of};
+ghost use Rattle.gs_fecqueue.specs.Holding.{data_of_block};
 ghost use Rattle.gs_frames.specs.Plan.{most_blocks};
 ghost use Rattle.gs_frames.specs.Shards.{most_payload};
 ghost use Rattle.gs_fecqueue.specs.Limits.{most_of_image};
@@ -24,7 +24,7 @@ pub(crate) fn join(blocks: &[Block], size: usize, image: &mut Vec<u8>)
     requires few { length blocks.now ≤ most_blocks }
     requires room { most_of_image ≤ vec_capacity image.old }
     ensures capacity { most_of_image ≤ vec_capacity image.new }
-    ensures joined { image.new.items ≡ flat_map (data_of size) blocks.now }
+    ensures joined { image.new.items ≡ flat_map (data_of_block size) blocks.now }
 {
     image.clear();
     'join: for block in blocks {

@@ -7,7 +7,8 @@ pub fn reset_changes_nothing()
     ensures { ResetChangesNothing }
 {}
 
-/// A law: where the verdict on a datagram says that its frame became whole, the frame has an image, and `image` gives it.
+/// A law: where the verdict on a datagram says that its frame became whole, the frame has an image, and `image` gives
+/// it.
 pub fn whole_frame_is_at_hand()
     ensures { WholeFrameIsAtHand }
 {}

@@ -31,7 +31,7 @@ mod tests;
 #[cfg(test)]
 mod worked;
 
-pub use gs_frames::WINDOW_GREATEST;
+pub use gs_frames::{Added, Shape, WINDOW_GREATEST, Why};
 pub use laws::{reset_changes_nothing, whole_frame_is_at_hand};
 pub use moved::{Moved, Outcome};
 pub use queue::Queue;

@@ -7,7 +7,8 @@ use gs_frames::{Added, WINDOW_GREATEST};
 pub struct Moved {
     pub from: u32,
     pub to: u32,
-    /// `whole[i]` says whether each block of frame `from - i` was whole. It is false for a frame that was left before.
+    /// `whole[i]`, for an i below the window, says whether each block of frame `from - i` was whole when this datagram
+    /// came. It is false for a frame that was left before, and where there is no such frame.
     pub whole: [bool; WINDOW_GREATEST],
 }
 

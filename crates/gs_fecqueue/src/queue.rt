@@ -32,7 +32,8 @@ pub struct Queue {
 }
 
 impl Queue {
-    ghost use Rattle.std.specs.Prelude.{ℕ, ◌+◌, ◌-◌, ◌%◌, ◌<◌, true, false, List, [], ◌∷◌, Option, Some, None, length, IfOk, MatchOption};
+    ghost use Rattle.std.specs.Prelude.{ℕ, ◌+◌, ◌-◌, ◌%◌, ◌<◌, true, false, List, [], ◌∷◌, Option, Some, None, length};
+    ghost use Rattle.std.specs.Prelude.{IfOk, MatchOption};
     ghost use Rattle.gs_rtp.specs.Stream.{numbers_of};
     ghost use Rattle.gs_rtp.specs.Video.{IsVideoHead, video_head};
     ghost use Rattle.gs_frames.specs.Client.{ClientSettings, Arrival, Datagram};
@@ -43,7 +44,7 @@ impl Queue {
     ghost use Rattle.gs_frames.specs.Shards.{packet_header, most_payload};
     ghost use Rattle.gs_fecqueue.specs.Holding.{Brings};
     ghost use Rattle.gs_fecqueue.specs.Moves.{is_whole_below, moved_behind, moved_by};
-    ghost use Rattle.gs_fecqueue.specs.Standing.{is_at_hand, all_but_last, IsAt, IsAmong, IsStanding, StandsFor};
+    ghost use Rattle.gs_fecqueue.specs.Standing.{is_at_hand, all_but_last, IsAt, IsAmong, IsStanding, IsQueueOf};
     ghost use Rattle.gs_fecqueue.specs.QueueSteps.{head_or_why, IsAdvanced, IsOpened};
 
     /// The queue of a client that was given nothing, with a window of 1 to 4 frames. It takes all its memory.
@@ -51,7 +52,7 @@ impl Queue {
         requires least { least_window ≤ window }
         requires greatest { window ≤ most_window }
         ensures { IfOk result (λ queue. (c : ClientSettings) → c.stream ≡ numbers_of settings.now → c.window ≡ window
-            → StandsFor queue c []) }
+            → IsQueueOf queue c []) }
     {
         let count = if window > 1 { window + 1 } else { 1 };
         Ok(Queue {
@@ -65,12 +66,12 @@ impl Queue {
 
     /// The verdict on one more datagram, of any bytes, and what it moves.
     pub fn add(&mut self, datagram: &[u8]) -> Outcome
-        ensures verdict { (c : ClientSettings) (came : List Arrival) → StandsFor self.old c came
+        ensures verdict { (c : ClientSettings) (came : List Arrival) → IsQueueOf self.old c came
             → result.what ≡ verdict c came datagram.now }
-        ensures moved { (c : ClientSettings) (came : List Arrival) → StandsFor self.old c came
+        ensures moved { (c : ClientSettings) (came : List Arrival) → IsQueueOf self.old c came
             → result.moved ≡ moved_by c came datagram.now }
-        ensures stands { (c : ClientSettings) (came : List Arrival) → StandsFor self.old c came
-            → StandsFor self.new c (Datagram datagram.now ∷ came) }
+        ensures stands { (c : ClientSettings) (came : List Arrival) → IsQueueOf self.old c came
+            → IsQueueOf self.new c (Datagram datagram.now ∷ came) }
     {
         let head = match self.head_of(datagram) {
             Ok(head) => head,
@@ -198,8 +199,9 @@ impl Queue {
     /// The image of a whole frame that is at hand: it is open or, in a window of several frames, was left by the last
     /// datagram.
     pub fn image(&self, frame: u32) -> &[u8]
-        ensures { (c : ClientSettings) (came : List Arrival) (image : List ℕ) → StandsFor self.now c came
-            → is_at_hand c.window (taken c (all_but_last came)) (taken c came) frame ≡ true → image_of c came frame ≡ Some image → result.now ≡ image }
+        ensures { (c : ClientSettings) (came : List Arrival) (image : List ℕ) → IsQueueOf self.now c came
+            → is_at_hand c.window (taken c (all_but_last came)) (taken c came) frame ≡ true
+            → image_of c came frame ≡ Some image → result.now ≡ image }
     {
         match self.place_among(frame) {
             Some(place) => self.frames[place].image(self.payload_size()),

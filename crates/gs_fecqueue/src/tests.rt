@@ -94,7 +94,31 @@ fn is_image(queue: &Queue, frame: u32, all: &[u8], shards: u16) -> bool {
     queue.image(frame) == &all[..(usize::from(shards) * PAYLOAD).min(all.len())]
 }
 
-// Takes those shards of a block that are in the mask, each twice, from the first or from the last on.
+// An order in which the shards of a block come: from the first on, from the last on, or those of odd numbers first.
+#[derive(Clone, Copy)]
+enum Order {
+    Forward,
+    Backward,
+    OddFirst,
+}
+
+// The number of the shard that comes k-th of so many.
+fn shard_at(order: Order, k: u16, count: u16) -> u16 {
+    let odd = count / 2;
+    match order {
+        Order::Forward => k,
+        Order::Backward => count.wrapping_sub(1).wrapping_sub(k),
+        Order::OddFirst => {
+            if k < odd {
+                k.wrapping_mul(2).wrapping_add(1)
+            } else {
+                k.wrapping_sub(odd).wrapping_mul(2)
+            }
+        }
+    }
+}
+
+// Takes those shards of a block that are in the mask, each twice, in this order.
 fn take_some(
     rt: &impl Abort,
     queue: &mut Queue,
@@ -102,12 +126,12 @@ fn take_some(
     place: Place,
     all: &[u8],
     mask: u32,
-    backward: bool,
+    order: Order,
     count: u16,
 ) -> Result<(), Fail> {
     let mut held = 0;
     for k in 0..count {
-        let index = if backward { count - 1 - k } else { k };
+        let index = shard_at(order, k, count);
         if mask >> u32::from(index & 31) & 1 == 1 {
             let was = add(queue, alloc, place, index, all)?;
             let want = if held >= place.shards {
@@ -142,19 +166,10 @@ fn restores_every_loss(rt: HostRuntime) -> Result<(), Fail> {
         let count = d.wrapping_add(p);
         let all = payloads(rt.alloc(), usize::from(d), usize::from(p), 5)?;
         for mask in 0..1_u32.wrapping_shl(u32::from(count)) {
-            for backward in [false, true] {
+            for order in [Order::Forward, Order::Backward, Order::OddFirst] {
                 frame = frame.wrapping_add(1);
                 let place = one_block(frame, d, percentage);
-                take_some(
-                    &rt,
-                    &mut queue,
-                    rt.alloc(),
-                    place,
-                    &all,
-                    mask,
-                    backward,
-                    count,
-                )?;
+                take_some(&rt, &mut queue, rt.alloc(), place, &all, mask, order, count)?;
                 if mask.count_ones() >= u32::from(d) {
                     assert!(rt; is_image(&queue, frame, &all, d));
                 }

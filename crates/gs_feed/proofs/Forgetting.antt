@@ -7,14 +7,14 @@ use Rattle.std.proofs.lemmas.List.Elements.{All-drop}
 use Rattle.gs_tape.specs.Tick.{Tick}
 use Rattle.gs_tape.specs.Limits.{IsTickWithinLimits}
 use Rattle.gs_tape.specs.Reading.{Fault}
-use Rattle.gs_feed.specs.Feeding.{Feeding, IsSound, IsOf, StandsFor, forgotten}
+use Rattle.gs_feed.specs.Feeding.{Feeding, IsFeedSound, IsOf, IsFeedAt, forgotten}
 use Rattle.gs_feed.proofs.LastTicks.{part_of_numbers}
 
 -- without the oldest d ticks
 abbrev pub without : ℕ → Feeding → Feeding
 without d feed = record feed { kept = drop d feed.kept }
 
-pub forgotten_without : (d : ℕ) (feed : Feeding) → IsSound feed → d ≤ length feed.kept - 1 → forgotten (without d feed) ≡ forgotten feed + d
+pub forgotten_without : (d : ℕ) (feed : Feeding) → IsFeedSound feed → d ≤ length feed.kept - 1 → forgotten (without d feed) ≡ forgotten feed + d
 forgotten_without d feed sound few =
     let long = length-drop d feed.kept in
     omega (arith, long, few, sound.few_kept)
@@ -31,7 +31,7 @@ numbers_without f d kept within numbers =
     ∙ part_of_numbers f (length kept) d (length kept - d) (f + d) (omega (arith, within)) (λ h. refl)
     ∙ ap (λ (n : ℕ). range_with_len (f + d + 1) n) many
 
-pub sound_without : (d : ℕ) (feed : Feeding) → IsSound feed → d ≤ length feed.kept - 1 → IsSound (without d feed)
+pub sound_without : (d : ℕ) (feed : Feeding) → IsFeedSound feed → d ≤ length feed.kept - 1 → IsFeedSound (without d feed)
 sound_without d feed sound few =
     let long : length (drop d feed.kept) ≡ length feed.kept - d = length-drop d feed.kept in
     let many = length (drop d feed.kept) in
@@ -48,7 +48,7 @@ sound_without d feed sound few =
     some : length (drop d feed.kept) ≡ length feed.kept - d → 0 < length feed.kept → 0 < length (drop d feed.kept)
     some long h = omega (arith, long, h, few)
 
-pub of_without : (d : ℕ) (feed : Feeding) (ticks : List Tick) → IsSound feed → d ≤ length feed.kept - 1 → IsOf feed ticks
+pub of_without : (d : ℕ) (feed : Feeding) (ticks : List Tick) → IsFeedSound feed → d ≤ length feed.kept - 1 → IsOf feed ticks
     → IsOf (without d feed) ticks
 of_without d feed ticks sound few of = record {
   captured = of.captured;
@@ -57,12 +57,12 @@ of_without d feed ticks sound few of = record {
       ∙ ap (λ (n : ℕ). drop n (take feed.count ticks)) (sym (forgotten_without d feed sound few));
 }
 
-pub stands_without : (d : ℕ) (feed : Feeding) (left : Option (List ℕ)) (ticks : List Tick) (fault : Option Fault) → IsSound feed
-    → d ≤ length feed.kept - 1 → StandsFor feed left ticks fault → StandsFor (without d feed) left ticks fault
+pub stands_without : (d : ℕ) (feed : Feeding) (left : Option (List ℕ)) (ticks : List Tick) (fault : Option Fault) → IsFeedSound feed
+    → d ≤ length feed.kept - 1 → IsFeedAt feed left ticks fault → IsFeedAt (without d feed) left ticks fault
 stands_without d feed left ticks fault sound few stands =
     record { is_of = of_without d feed ticks sound few stands.is_of; unread_is = stands.unread_is }
 
-pub kept_without : (d : ℕ) (feed : Feeding) → IsSound feed → d ≤ length feed.kept - 1
+pub kept_without : (d : ℕ) (feed : Feeding) → IsFeedSound feed → d ≤ length feed.kept - 1
     → drop d feed.kept ≡ drop (forgotten (without d feed) - forgotten feed) feed.kept
 kept_without d feed sound few =
     let same : d ≡ forgotten (without d feed) - forgotten feed = omega (arith, forgotten_without d feed sound few) in

@@ -1,4 +1,5 @@
 pub mod Capturing
+pub mod Cuts
 pub mod Forgetting
 pub mod LastTicks
 pub mod Newest

@@ -3,7 +3,7 @@ use Rattle.std.proofs.Common.{◌≡◌, ℕ, ◌+◌, ◌-◌, ◌<◌, List, l
 use Rattle.std.proofs.lemmas.List.{get_or-map, length-map}
 use Rattle.std.proofs.lemmas.List.FromFn.{get_or-range_with_len}
 use Rattle.gs_tape.specs.Tick.{Tick, tick_numbered}
-use Rattle.gs_feed.specs.Feeding.{Feeding, IsSound, IsOf, forgotten}
+use Rattle.gs_feed.specs.Feeding.{Feeding, IsFeedSound, IsOf, forgotten}
 use Rattle.gs_feed.proofs.LastTicks.{last_of}
 
 pub some_kept : {A : Type 0} (value : A → Tick) (items : List A) (kept : List Tick) → map value items ≡ kept → 0 < length items
@@ -22,7 +22,7 @@ newest_at value items kept x is some last d =
     ∙ ap (λ (i : ℕ). value (get_or items i x)) (ap (λ (n : ℕ). n - 1) (sym many)) ∙ ap value (sym (last x)))
 
 pub newest_number : {A : Type 0} (feed : Feeding) (value : A → Tick) (items : List A) (x : A) → map value items ≡ feed.kept
-    → IsSound feed → 0 < length feed.kept → ((d : A) → x ≡ get_or items (length items - 1) d) → (value x).number ≡ feed.count
+    → IsFeedSound feed → 0 < length feed.kept → ((d : A) → x ≡ get_or items (length items - 1) d) → (value x).number ≡ feed.count
 newest_number feed value items x is sound some last =
     let n = length feed.kept in
     let at : value x ≡ get_or feed.kept (n - 1) (value x) = newest_at value items feed.kept x is some last (value x) in
@@ -33,7 +33,7 @@ newest_number feed value items x is sound some last =
     ∙ omega (arith, some, sound.few_kept)
 
 pub newest_of : {A : Type 0} (feed : Feeding) (value : A → Tick) (items : List A) (x : A) (ticks : List Tick)
-    → map value items ≡ feed.kept → IsSound feed → 0 < length feed.kept → ((d : A) → x ≡ get_or items (length items - 1) d)
+    → map value items ≡ feed.kept → IsFeedSound feed → 0 < length feed.kept → ((d : A) → x ≡ get_or items (length items - 1) d)
     → IsOf feed ticks → tick_numbered ticks feed.count ≡ Some (value x)
 newest_of feed value items x ticks is sound some last of =
     let place : feed.count - forgotten feed - 1 ≡ length feed.kept - 1 = omega (arith, sound.few_kept) in

@@ -7,7 +7,7 @@ use Rattle.std.proofs.lemmas.List.{take-map, drop-map, get_or-map, length-map}
 use Rattle.std.proofs.lemmas.List.Elements.{All-take, All-drop}
 use Rattle.std.proofs.lemmas.Simd.{map-map}
 use Rattle.gs_tape.specs.Tick.{Tick, tick_numbered}
-use Rattle.gs_feed.specs.Feeding.{Feeding, IsSound, IsOf, forgotten}
+use Rattle.gs_feed.specs.Feeding.{Feeding, IsFeedSound, IsOf, forgotten}
 use Rattle.gs_feed.proofs.LastTicks.{part_of_numbers, part_of_last, numbered_of}
 
 -- the ticks kept above a number and below the newest: `c` of them behind the first `s`
@@ -16,7 +16,7 @@ pub record IsSince (feed : Feeding) (last s c : ℕ) : Type 0 where
   pub many : c ≡ feed.count - (last + 1)
   pub from : 0 < c → forgotten feed + s ≡ last
 
-pub since_is : (feed : Feeding) (last s m : ℕ) → IsSound feed → forgotten feed ≤ last → m ≡ length feed.kept - 1
+pub since_is : (feed : Feeding) (last s m : ℕ) → IsFeedSound feed → forgotten feed ≤ last → m ≡ length feed.kept - 1
     → s ≡ min (min (last - forgotten feed) (length feed.kept)) m → IsSince feed last s (m - s)
 since_is feed last s m sound above newest start = elim (cases_lt 0 feed.count) [
   | inl some ↦
@@ -42,7 +42,7 @@ slice_values value items kept s c is =
     ∙ ap (λ (l : List Tick). take c (drop s l)) is
 
 pub slice_numbers : {A : Type 0} (feed : Feeding) (value : A → Tick) (items : List A) (last s c : ℕ) → map value items ≡ feed.kept
-    → IsSound feed → IsSince feed last s c
+    → IsFeedSound feed → IsSince feed last s c
     → map (λ t. (value t).number) (take c (drop s items)) ≡ range_with_len (last + 1) (feed.count - (last + 1))
 slice_numbers feed value items last s c is sound since =
     let number : Tick → ℕ = λ t. t.number in
@@ -55,7 +55,7 @@ slice_numbers feed value items last s c is sound since =
     ∙ ap (λ (n : ℕ). range_with_len (last + 1) n) since.many
 
 pub slice_ticks : {A : Type 0} (feed : Feeding) (value : A → Tick) (items : List A) (last s c : ℕ) (ticks : List Tick)
-    → map value items ≡ feed.kept → IsSound feed → IsSince feed last s c → IsOf feed ticks
+    → map value items ≡ feed.kept → IsFeedSound feed → IsSince feed last s c → IsOf feed ticks
     → map value (take c (drop s items)) ≡ drop last (take (feed.count - 1) ticks)
 slice_ticks feed value items last s c ticks is sound since of =
     slice_values value items feed.kept s c is
@@ -64,7 +64,7 @@ slice_ticks feed value items last s c ticks is sound since of =
     (omega (arith, since.fits, sound.few_kept)) since.many since.from
 
 pub slice_of : {A : Type 0} (feed : Feeding) (value : A → Tick) (items : List A) (last s c : ℕ) (ticks : List Tick)
-    → map value items ≡ feed.kept → IsSound feed → IsSince feed last s c → IsOf feed ticks
+    → map value items ≡ feed.kept → IsFeedSound feed → IsSince feed last s c → IsOf feed ticks
     → All (λ t. tick_numbered ticks t.number ≡ Some t) (map value (take c (drop s items)))
 slice_of feed value items last s c ticks is sound since of =
     let ys = map value (take c (drop s items)) in

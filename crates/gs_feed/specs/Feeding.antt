@@ -4,8 +4,9 @@ use Rattle.std.specs.Prelude.{Some, None, Result, Ok, Err, IfSome, ⊤}
 use Rattle.std.specs.List.{All, range_with_len}
 use Rattle.gs_tape.specs.Tick.{Tick}
 use Rattle.gs_tape.specs.Limits.{most_ticks, IsTickWithinLimits}
-use Rattle.gs_tape.specs.Reading.{Fault, Head, Read, head_at, ticks_of, first_fault, audio_length, audio_duration}
-use Rattle.gs_tape.specs.Tape.{Opened, unread}
+use Rattle.gs_tape.specs.Reading.{Fault, CaptureHead, ReadTape, head_at, ticks_of, first_fault, audio_length}
+use Rattle.gs_tape.specs.Reading.{audio_duration}
+use Rattle.gs_tape.specs.Tape.{Opened, unread_tape}
 use Rattle.gs_tape.specs.Errors.{fault_of}
 use Rattle.gs_tape.specs.declared.error.TapeError.{TapeError}
 use Rattle.gs_tape.specs.declared.stage.Stage.{Stage}
@@ -24,7 +25,7 @@ abbrev pub forgotten : Feeding → ℕ
 forgotten feed = feed.count - length feed.kept
 
 -- what is kept is numbered up to the newest tick captured, which is never forgotten, and keeps the file's limits
-pub record IsSound (feed : Feeding) : Type 0 where
+pub record IsFeedSound (feed : Feeding) : Type 0 where
   pub next : feed.lost ≡ false → feed.tape.stage ≡ Open → feed.tape.before.number ≡ feed.count + 1
   pub few : feed.count ≤ most_ticks
   pub few_kept : length feed.kept ≤ feed.count
@@ -38,23 +39,23 @@ pub record IsOf (feed : Feeding) (ticks : List Tick) : Type 0 where
   pub kept_are : feed.kept ≡ drop (forgotten feed) (take feed.count ticks)
 
 -- The file has these ticks and then this fault, if there is one; those not captured are still to be read.
-pub record StandsFor (feed : Feeding) (left : Option (List ℕ)) (ticks : List Tick) (fault : Option Fault) : Type 0 where
+pub record IsFeedAt (feed : Feeding) (left : Option (List ℕ)) (ticks : List Tick) (fault : Option Fault) : Type 0 where
   pub is_of : IsOf feed ticks
-  pub unread_is : unread feed.tape left ≡ Some (record { ticks = drop feed.count ticks; fault = fault })
+  pub unread_is : unread_tape feed.tape left ≡ Some (record { ticks = drop feed.count ticks; fault = fault })
 
 -- a feed of a file with these bytes, before the first capture
-pub record OpensAs (bytes : List ℕ) (feed : Feeding) (left : Option (List ℕ)) : Type 0 where
-  pub head : Head × List ℕ
+pub record OpensFeedAs (bytes : List ℕ) (feed : Feeding) (left : Option (List ℕ)) : Type 0 where
+  pub head : CaptureHead × List ℕ
   pub head_is : head_at (length bytes) bytes ≡ Ok head
   pub audio_is : feed.tape.audio ≡ audio_length bytes
   pub duration_is : feed.tape.duration ≡ audio_duration bytes
-  pub stands : StandsFor feed left (ticks_of bytes) (first_fault bytes)
+  pub stands : IsFeedAt feed left (ticks_of bytes) (first_fault bytes)
 
 -- a file that is refused has that fault in its head
-abbrev pub Opens : Option (List ℕ) → Option (List ℕ) → Result Feeding TapeError → Type 0
-Opens None left r = ⊤
-Opens (Some bytes) left (Ok feed) = OpensAs bytes feed left
-Opens (Some bytes) left (Err e) = IfSome (fault_of e) (λ fault. head_at (length bytes) bytes ≡ Err fault)
+abbrev pub OpensFeed : Option (List ℕ) → Option (List ℕ) → Result Feeding TapeError → Type 0
+OpensFeed None left r = ⊤
+OpensFeed (Some bytes) left (Ok feed) = OpensFeedAs bytes feed left
+OpensFeed (Some bytes) left (Err e) = IfSome (fault_of e) (λ fault. head_at (length bytes) bytes ≡ Err fault)
 
 -- A tick is captured exactly while the file has one that wasn't. Behind them comes the file's fault, or its end.
 abbrev pub Captures : ℕ → List Tick → Option Fault → Result Bool TapeError → Type 0
@@ -84,11 +85,11 @@ stage_behind_rest (Ok x) = Ended
 stage_behind_rest (Err e) = Failed e
 
 -- the file ends with this fault, or with none
-abbrev pub EndsWith : {A : Type 0} → Option Fault → Result A TapeError → Type 0
-EndsWith fault (Ok x) = fault ≡ None
-EndsWith fault (Err e) = IfSome (fault_of e) (λ why. fault ≡ Some why)
+abbrev pub EndsWithFault : {A : Type 0} → Option Fault → Result A TapeError → Type 0
+EndsWithFault fault (Ok x) = fault ≡ None
+EndsWithFault fault (Err e) = IfSome (fault_of e) (λ why. fault ≡ Some why)
 
 -- the same of all that is read of it, where that is told
-abbrev pub ReadEndsWith : {A : Type 0} → Option Read → Result A TapeError → Type 0
+abbrev pub ReadEndsWith : {A : Type 0} → Option ReadTape → Result A TapeError → Type 0
 ReadEndsWith None r = ⊤
-ReadEndsWith (Some all) r = EndsWith all.fault r
+ReadEndsWith (Some all) r = EndsWithFault all.fault r

@@ -1,6 +1,7 @@
 //! A capture file, read as a run captures.
 
-ghost use Rattle.std.specs.Prelude.{ℕ, true, false, ◌≡◌, ◌≢◌, ◌⊎◌, ◌+◌, ◌-◌, ◌*◌, ◌<◌, ◌≤◌, ◌↔◌, List, Option, length, map, min, max, take, drop, IfOk, IfSome, IsErrOf, IsSome, IsTrue, OnOk};
+ghost use Rattle.std.specs.Prelude.{ℕ, true, false, ◌≡◌, ◌≢◌, ◌⊎◌, ◌+◌, ◌-◌, ◌*◌, ◌<◌, ◌≤◌, ◌↔◌, List, Option, length};
+ghost use Rattle.std.specs.Prelude.{map, min, max, take, drop, IfOk, IfSome, IsErrOf, IsSome, IsTrue, OnOk};
 ghost use Rattle.std.specs.Arc.{arc_value};
 ghost use Rattle.std.specs.List.{All, range_with_len};
 ghost use Rattle.std.specs.Option.{option_copied};
@@ -8,10 +9,12 @@ ghost use Rattle.std.specs.Io.KnownBytes.{IsAtEnd, Keeps};
 ghost use Rattle.gs_bytes.specs.Outside.{KeepsFlag, Rose, SetsFlag};
 ghost use Rattle.gs_tape.specs.Tick.{tick_numbered};
 ghost use Rattle.gs_tape.specs.Tick as spec;
-ghost use Rattle.gs_tape.specs.Limits.{IsTickWithinLimits, most_audio};
+ghost use Rattle.gs_tape.specs.Limits.{IsDuration, IsTickWithinLimits, most_audio};
 ghost use Rattle.gs_tape.specs.Reading.{Fault};
 ghost use Rattle.gs_tape.specs.declared.stage.Stage.TheVariants.{Open};
-ghost use Rattle.gs_feed.specs.Feeding.{Captures, EndsWith, IfTold, IsOf, Opens, StandsFor, count_behind, forgotten, stage_behind, stage_behind_rest};
+ghost use Rattle.gs_feed.specs.Feeding.{Captures, EndsWithFault, IfTold, IsOf, OpensFeed, IsFeedAt, count_behind};
+ghost use Rattle.gs_feed.specs.Feeding.{forgotten, stage_behind, stage_behind_rest};
+ghost use Rattle.gs_feed.specs.Cuts.{CapturesBytes, HasTaken, OpensBytes, StopsInRest};
 
 use crate::kept::keep;
 use crate::rest::read_rest;
@@ -38,23 +41,29 @@ pub struct Feed {
 impl Model for Feed {
     ghost use Rattle.std.specs.Prelude.{map};
     ghost use Rattle.std.specs.Arc.{arc_value};
-    ghost use Rattle.gs_feed.specs.Feeding.{Feeding, IsSound};
+    ghost use Rattle.gs_feed.specs.Feeding.{Feeding, IsFeedSound};
 
     ghost Value = { Feeding };
 
     ghost view = { λ f. record { tape = f.tape; lost = f.lost; count = f.count; kept = map arc_value f.kept.items } };
 
-    ghost invariant = { λ f. IsSound (record { tape = f.tape; lost = f.lost; count = f.count; kept = map arc_value f.kept.items }) };
+    ghost invariant = { λ f. IsFeedSound (record {
+      tape = f.tape;
+      lost = f.lost;
+      count = f.count;
+      kept = map arc_value f.kept.items;
+    }) };
 }
 
 impl Feed {
     /// Reads the head of the file. Nothing is captured yet.
     pub fn open<S: Source>(alloc: Global, source: &mut S) -> Result<Feed, TapeError>
-        ensures opens { Opens (S.left source.old) (S.left source.new) result }
+        ensures opens { OpensFeed (S.left source.old) (S.left source.new) result }
+        ensures bytes { OpensBytes (S.left source.old) (S.left source.new) result }
         ensures first { IfOk result (λ feed. (feed.count ≡ 0) × (feed.tape.stage ≡ Open)) }
         ensures whole { IfOk result (λ feed. feed.lost ≡ false) }
         ensures most { IfOk result (λ feed. feed.tape.audio ≤ most_audio) }
-        ensures known { IfOk result (λ feed. (feed.tape.duration ≡ 5) ⊎ (feed.tape.duration ≡ 10)) }
+        ensures known { IfOk result (λ feed. IsDuration feed.tape.duration) }
         ensures not_met { OnOk result (KeepsFlag (S.met_end source.old) (S.met_end source.new)) }
         ensures written { Keeps (S.written source.old) (S.written source.new) }
         ensures never_falls { S.faults source.old ≤ S.faults source.new }
@@ -97,10 +106,16 @@ impl Feed {
     /// memory. After the end and after an error it answers the same again and reads nothing.
     pub fn capture<S: Source>(&mut self, source: &mut S) -> Result<bool, TapeError>
         // What is answered of a file, and that it stands then.
-        ensures captures { (ticks : List spec.Tick) (fault : Option Fault) → StandsFor self.old (S.left source.old) ticks fault
+        ensures captures { (ticks : List spec.Tick) (fault : Option Fault)
+            → IsFeedAt self.old (S.left source.old) ticks fault
             → Captures self.old.count ticks fault result }
-        ensures stands { (ticks : List spec.Tick) (fault : Option Fault) → StandsFor self.old (S.left source.old) ticks fault
-            → IfTold result (StandsFor self.new (S.left source.new) ticks fault) }
+        ensures stands { (ticks : List spec.Tick) (fault : Option Fault)
+            → IsFeedAt self.old (S.left source.old) ticks fault
+            → IfTold result (IsFeedAt self.new (S.left source.new) ticks fault) }
+        // Which bytes of the file it takes, also where the source failed.
+        ensures bytes { (bytes : List ℕ) → self.old.tape.stage ≡ Open
+            → HasTaken bytes self.old.tape self.old.count (S.left source.old)
+            → CapturesBytes bytes self.old.count self.new.tape (S.left source.new) result }
 
         // What any answer leaves.
         ensures count { self.new.count ≡ count_behind self.old.count result }
@@ -111,15 +126,18 @@ impl Feed {
         ensures stage { self.new.lost ≡ false → self.new.tape.stage ≡ stage_behind result }
         ensures memory { IsTrue self.new.lost → result ≡ Err TapeError.OutOfMemory }
         ensures again { self.old.tape.stage ≢ Open → (self.new ≡ self.old) × (source.new ≡ source.old) }
-        ensures lost { IsTrue self.old.lost → (self.new ≡ self.old) × (source.new ≡ source.old) × (result ≡ Err TapeError.OutOfMemory) }
+        ensures lost { IsTrue self.old.lost → (self.new ≡ self.old) × (source.new ≡ source.old)
+            × (result ≡ Err TapeError.OutOfMemory) }
 
         // What it does to the source.
         ensures end { self.old.tape.stage ≡ Open → result ≡ Ok false → IsAtEnd (S.left source.new) }
-        ensures met_end { self.old.tape.stage ≡ Open → result ≡ Ok false → SetsFlag (S.met_end source.old) (S.met_end source.new) }
+        ensures met_end { self.old.tape.stage ≡ Open → result ≡ Ok false
+            → SetsFlag (S.met_end source.old) (S.met_end source.new) }
         ensures not_met { result ≡ Ok true → KeepsFlag (S.met_end source.old) (S.met_end source.new) }
         ensures written { Keeps (S.written source.old) (S.written source.new) }
         ensures never_falls { S.faults source.old ≤ S.faults source.new }
-        ensures fault { self.old.tape.stage ≡ Open → IsErrOf result TapeError.TapeFault → Rose (S.faults source.old) (S.faults source.new) }
+        ensures fault { self.old.tape.stage ≡ Open → IsErrOf result TapeError.TapeFault
+            → Rose (S.faults source.old) (S.faults source.new) }
         ensures counted { S.faults source.new ≢ S.faults source.old → IsErrOf result TapeError.TapeFault }
     {
         if self.lost {
@@ -141,7 +159,8 @@ impl Feed {
         ensures some { IsSome result ↔ (0 < self.now.count) }
         ensures number { IfSome result (λ t. t.now.number ≡ self.now.count) }
         ensures within { IfSome result (λ t. IsTickWithinLimits self.now.tape.audio t.now.number t.now) }
-        ensures of { (ticks : List spec.Tick) → IsOf self.now ticks → option_copied result ≡ tick_numbered ticks self.now.count }
+        ensures of { (ticks : List spec.Tick) → IsOf self.now ticks
+            → option_copied result ≡ tick_numbered ticks self.now.count }
     {
         let newest = self.kept.last()?;
         Some(&**newest)
@@ -151,10 +170,13 @@ impl Feed {
     /// this number was forgotten.
     pub fn since(&self, last: u32) -> &[Arc<Tick>]
         requires { forgotten self.now ≤ last }
-        ensures numbers { map (λ t. t.value.number) result.now ≡ range_with_len (last + 1) (self.now.count - (last + 1)) }
+        ensures numbers { map (λ t. t.value.number) result.now
+            ≡ range_with_len (last + 1) (self.now.count - (last + 1)) }
         ensures within { All (λ t. IsTickWithinLimits self.now.tape.audio t.value.number t.value) result.now }
-        ensures ticks { (ticks : List spec.Tick) → IsOf self.now ticks → map arc_value result.now ≡ drop last (take (self.now.count - 1) ticks) }
-        ensures of { (ticks : List spec.Tick) → IsOf self.now ticks → All (λ t. tick_numbered ticks t.number ≡ Some t) (map arc_value result.now) }
+        ensures ticks { (ticks : List spec.Tick) → IsOf self.now ticks
+            → map arc_value result.now ≡ drop last (take (self.now.count - 1) ticks) }
+        ensures of { (ticks : List spec.Tick) → IsOf self.now ticks
+            → All (λ t. tick_numbered ticks t.number ≡ Some t) (map arc_value result.now) }
     {
         let newest = self.kept.len().saturating_sub(1);
         let start = self.place(last).min(newest);
@@ -186,8 +208,9 @@ impl Feed {
         ensures count { self.new.count ≡ self.old.count }
         ensures tape { (self.new.tape ≡ self.old.tape) × (self.new.lost ≡ self.old.lost) }
         ensures of { (ticks : List spec.Tick) → IsOf self.old ticks → IsOf self.new ticks }
-        ensures stands { (left : Option (List ℕ)) (ticks : List spec.Tick) (fault : Option Fault) → StandsFor self.old left ticks fault
-            → StandsFor self.new left ticks fault }
+        ensures stands { (left : Option (List ℕ)) (ticks : List spec.Tick) (fault : Option Fault)
+            → IsFeedAt self.old left ticks fault
+            → IsFeedAt self.new left ticks fault }
     {
         let unwanted = self.unwanted(up_to);
         if unwanted >= self.kept.len() - unwanted {
@@ -198,20 +221,27 @@ impl Feed {
     /// Reads the rest of the file, keeps none of it, and answers its fault if there is one. After that no
     /// tick can be captured; those kept stay. Behind an end or an error it answers the same again and reads nothing.
     pub fn finish<S: Source>(&mut self, source: &mut S) -> Result<(), TapeError>
-        ensures ends { (ticks : List spec.Tick) (fault : Option Fault) → StandsFor self.old (S.left source.old) ticks fault
-            → EndsWith fault result }
+        ensures ends { (ticks : List spec.Tick) (fault : Option Fault)
+            → IsFeedAt self.old (S.left source.old) ticks fault
+            → EndsWithFault fault result }
+        ensures bytes { (bytes : List ℕ) → self.old.tape.stage ≡ Open
+            → HasTaken bytes self.old.tape self.old.count (S.left source.old)
+            → IsErrOf result TapeError.TapeFault → StopsInRest bytes (S.left source.new) self.old.count }
         ensures kept { (self.new.count ≡ self.old.count) × (self.new.kept ≡ self.old.kept) }
         ensures head { (self.new.tape.audio ≡ self.old.tape.audio) × (self.new.tape.duration ≡ self.old.tape.duration) }
         ensures done { IsTrue self.new.lost ⊎ (self.new.tape.stage ≢ Open) }
         ensures stage { self.new.lost ≡ false → self.new.tape.stage ≡ stage_behind_rest result }
         ensures again { self.old.tape.stage ≢ Open → (self.new ≡ self.old) × (source.new ≡ source.old) }
         ensures same { self.new.lost ≡ self.old.lost }
-        ensures lost { IsTrue self.old.lost → (self.new ≡ self.old) × (source.new ≡ source.old) × (result ≡ Err TapeError.OutOfMemory) }
+        ensures lost { IsTrue self.old.lost → (self.new ≡ self.old) × (source.new ≡ source.old)
+            × (result ≡ Err TapeError.OutOfMemory) }
         ensures end { self.old.tape.stage ≡ Open → OnOk result (IsAtEnd (S.left source.new)) }
-        ensures met_end { self.old.tape.stage ≡ Open → OnOk result (SetsFlag (S.met_end source.old) (S.met_end source.new)) }
+        ensures met_end { self.old.tape.stage ≡ Open
+            → OnOk result (SetsFlag (S.met_end source.old) (S.met_end source.new)) }
         ensures written { Keeps (S.written source.old) (S.written source.new) }
         ensures never_falls { S.faults source.old ≤ S.faults source.new }
-        ensures fault { self.old.tape.stage ≡ Open → IsErrOf result TapeError.TapeFault → Rose (S.faults source.old) (S.faults source.new) }
+        ensures fault { self.old.tape.stage ≡ Open → IsErrOf result TapeError.TapeFault
+            → Rose (S.faults source.old) (S.faults source.new) }
         ensures counted { S.faults source.new ≢ S.faults source.old → result ≡ Err TapeError.TapeFault }
     {
         if self.lost {

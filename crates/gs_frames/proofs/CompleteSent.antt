@@ -9,7 +9,7 @@ use Rattle.std.proofs.lemmas.Option.{slice_get-get_or, slice_get_within, get_or_
 use Rattle.gs_gf256.specs.Field.{IsByte}
 use Rattle.gs_rtp.specs.Stream.{StreamSettings}
 use Rattle.gs_frames.specs.Shards.{payload_of, block_shards}
-use Rattle.gs_frames.specs.Datagrams.{plan_of, headed_blocks, OutgoingFrame, frame_shards}
+use Rattle.gs_frames.specs.Datagrams.{unit_plan, headed_blocks, OutgoingFrame, frame_shards}
 use Rattle.gs_frames.specs.Image.{Frame, packets, frame_image, frame_of}
 use Rattle.gs_frames.specs.Plan.{BlockPlan, without_parity}
 use Rattle.gs_frames.specs.Received.{Received, oldest, is_of_frame, is_of_block}
@@ -41,7 +41,7 @@ pub record AreBlocksOf (s : StreamSettings) (plans : List BlockPlan) (image : Li
 
 -- those of a frame that is sent do
 pub sent-blocks : (s : StreamSettings) (out : OutgoingFrame) → IsSent s out
-    → AreBlocksOf s (plan_of s out.unit) (frame_image out.kind out.unit (payload_of s))
+    → AreBlocksOf s (unit_plan s out.unit) (frame_image out.kind out.unit (payload_of s))
 sent-blocks s out sent =
     let kind = out.kind in
     let unit = out.unit in
@@ -223,7 +223,7 @@ complete_is_sent c out rs held sent comes e =
     let read = sent-read c.stream out sent in
     let image = frame_image kind unit (payload_of c.stream) in
     let behind =
-    sent_behind c.stream c.window out.frame out.time out.count (plan_of c.stream unit) image rs held (oldest (is_of_frame out.frame) rs)
+    sent_behind c.stream c.window out.frame out.time out.count (unit_plan c.stream unit) image rs held (oldest (is_of_frame out.frame) rs)
     (sent-blocks c.stream out sent) comes refl
     (sym (complete-is c rs out.frame) ∙ e) in
     let same : Some held ≡ Some (record { kind = kind; unit = unit }) = sym behind ∙ read in

@@ -64,7 +64,7 @@ of_block-frame f block r passes =
     let tests = and_parts (r.head.frame == f) (r.head.block == block) passes in
     (eqb-true r.head.frame f tests.0, eqb-true r.head.block block tests.1)
 
-is_of_block-miss : (f block : ℕ) (r : Received) → is_of_frame f r ≡ false → is_of_block f block r ≡ false
+pub is_of_block-miss : (f block : ℕ) (r : Received) → is_of_frame f r ≡ false → is_of_block f block r ≡ false
 is_of_block-miss f block r e = and_left (r.head.frame == f) (r.head.block == block) e
 
 pub oldest_of_block-none : (f block : ℕ) (rs : List Received) → NoneOf f rs → oldest (is_of_block f block) rs ≡ None

@@ -7,7 +7,7 @@ use Rattle.std.proofs.lemmas.List.Elements.{All-weaker}
 use Rattle.std.proofs.lemmas.Option.{slice_get-get_or}
 use Rattle.gs_rtp.specs.Stream.{StreamSettings}
 use Rattle.gs_frames.specs.Shards.{payload_of, block_shards}
-use Rattle.gs_frames.specs.Datagrams.{plan_of, headed_blocks, frame_shards}
+use Rattle.gs_frames.specs.Datagrams.{unit_plan, headed_blocks, frame_shards}
 use Rattle.gs_frames.specs.Image.{frame_image}
 use Rattle.gs_frames.specs.Plan.{BlockPlan, without_parity}
 use Rattle.gs_frames.specs.declared.verdict.Shape.{Shape}
@@ -148,5 +148,5 @@ enough_complete c out rs sent comes below enough =
     let image = frame_image out.kind unit (payload_of c.stream) in
     complete-is c rs out.frame
     ∙ ap (frame_in (payload_of c.stream))
-    (image-known c.stream c.window out.frame out.time out.count (plan_of c.stream unit) image rs (sent-blocks c.stream out sent) comes below enough)
+    (image-known c.stream c.window out.frame out.time out.count (unit_plan c.stream unit) image rs (sent-blocks c.stream out sent) comes below enough)
     ∙ sent-read c.stream out sent

@@ -11,7 +11,7 @@ use Rattle.gs_gf256.specs.Field.{IsByte, product, inverse, inverse_below, polyno
 use Rattle.gs_poly.specs.Polynomial.{ratio_product}
 use Rattle.gs_rs.specs.Shape.{differences}
 use Rattle.gs_rtp.specs.Stream.{StreamSettings}
-use Rattle.gs_frames.specs.Datagrams.{OutgoingFrame, plan_of, frame_shards, frame_datagrams}
+use Rattle.gs_frames.specs.Datagrams.{OutgoingFrame, unit_plan, frame_shards, frame_datagrams}
 use Rattle.gs_frames.specs.Image.{frame_image, frame_of, packets, last_length}
 use Rattle.gs_frames.specs.Plan.{fec_plan, BlockPlan}
 use Rattle.gs_frames.specs.Client.{ClientSettings, HasWindow, datagrams}
@@ -181,7 +181,7 @@ fifth_sent = record {
   unit_bytes = All-replicate IsByte 10000 67 (lit< tt);
 }
 
-fifth_planned : plan_of fifth (replicate 10000 67) ≡ plan 10 2 20 ∷ []
+fifth_planned : unit_plan fifth (replicate 10000 67) ≡ plan 10 2 20 ∷ []
 unfolding fifth fec_plan
 fifth_planned = refl
 

@@ -9,7 +9,7 @@ use Rattle.gs_gf256.specs.Field.{IsByte}
 use Rattle.gs_rs.specs.Shape.{video_code}
 use Rattle.gs_rtp.specs.Stream.{StreamSettings}
 use Rattle.gs_frames.specs.Shards.{payload_of, block_shards}
-use Rattle.gs_frames.specs.Datagrams.{datagram_of, Place, next_block, headed_shard, headed_shards, headed_blocks, plan_of, first_place, frame_shards}
+use Rattle.gs_frames.specs.Datagrams.{datagram_of, Place, next_block, headed_shard, headed_shards, headed_blocks, unit_plan, first_place, frame_shards}
 use Rattle.gs_frames.specs.Datagrams.{frame_datagrams}
 use Rattle.gs_frames.specs.Image.{packets, most_packets, frame_image}
 use Rattle.gs_frames.specs.Plan.{BlockPlan}
@@ -112,7 +112,7 @@ frame_is_received s out sent =
     let ssrc : s.ssrc ≤ 9999 = limits.ssrc_greatest in
     let n = packets (length unit) payload in
     let bounds = packets-within (length unit) payload (omega arith) sent.unit_greatest in
-    let plans = plan_of s unit in
+    let plans = unit_plan s unit in
     let planned : ArePlans plans = fec_plan-within n s.percentage s.minimum bounds.0 bounds.1 limits.percentage_greatest limits.minimum_greatest in
     let some : 1 ≤ length plans = planned.some in
     let few : length plans ≤ 4 = planned.few in

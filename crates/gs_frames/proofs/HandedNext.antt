@@ -8,7 +8,7 @@ use Rattle.gs_frames.specs.Client.{ClientSettings, Arrival, Datagram, Reset}
 use Rattle.gs_frames.specs.Received.{taken}
 use Rattle.gs_frames.specs.Settled.{settled}
 use Rattle.gs_frames.specs.Handed.{Handed, is_re_entry, settled_at_resets, last_reset_before, has_idr_since}
-use Rattle.gs_frames.specs.Kept.{last_of, is_waiting}
+use Rattle.gs_frames.specs.Kept.{last_of, waits_for_idr_frame}
 use Rattle.gs_frames.specs.KeptLaws.{AreBelow, LastHandedTellsNext}
 use Rattle.gs_frames.proofs.SettledUp.{settled_never_falls}
 
@@ -26,7 +26,7 @@ resets-within c (Reset ∷ came) =
 
 -- so the last one of all is the last before a frame above the settled ones
 waiting-is : (resets : List ℕ) (hs : List Handed) (frame : ℕ) → All (λ s. s < frame) resets
-    → not (has_idr_since hs (last_reset_before resets frame)) ≡ is_waiting hs resets
+    → not (has_idr_since hs (last_reset_before resets frame)) ≡ waits_for_idr_frame hs resets
 waiting-is [] hs frame all = refl
 waiting-is (reset ∷ resets) hs frame all =
     let before : reset < frame = All-head (λ s. s < frame) reset resets all in
@@ -80,7 +80,7 @@ by_parts false w w' f f' re p q = ap (λ (b : Bool). not b && (re || f)) p ∙ a
 pub last_handed_tells : LastHandedTellsNext
 last_handed_tells c came hs frame kind above below =
     let resets = settled_at_resets c came in
-    by_parts (kind == 2) (not (has_idr_since hs (last_reset_before resets frame))) (is_waiting hs resets)
+    by_parts (kind == 2) (not (has_idr_since hs (last_reset_before resets frame))) (waits_for_idr_frame hs resets)
     (list_any (λ h. h.frame + 1 == frame) hs) (nat_lt 0 (last_of hs) && last_of hs + 1 == frame) (is_re_entry kind)
     (waiting-is resets hs frame
     (All-weaker (λ s. s ≤ settled c (taken c came)) (λ s. s < frame) (λ s h. omega arith) resets (resets-within c came)))

@@ -6,7 +6,7 @@ use Rattle.std.proofs.lemmas.Bool.{cond-true, cond-false, cases_lt, cases_eq, eq
 use Rattle.std.proofs.lemmas.List.{length-replicate, take_at}
 use Rattle.std.proofs.lemmas.Nat.{div-mul-add, mod-mul-add}
 use Rattle.byteorder.specs.Numbers.{little_number-reads_back}
-use Rattle.gs_frames.specs.Image.{ceil_div, header_length, packets, last_length, frame_image, Frame, is_kind, kind_of, last_read, most_packets, is_frame_image}
+use Rattle.gs_frames.specs.Image.{ceil_div, header_length, packets, last_length, frame_image, Frame, is_kind, kind_of, last_read, most_packets, holds_frame}
 use Rattle.gs_frames.specs.Image.{unit_length, frame_of}
 use Rattle.gs_frames.specs.ImageLaws.{IsWrittenKind}
 
@@ -115,7 +115,7 @@ first_fits n last h = elim (cases_eq n 1) [
 ]
 
 IsOrdered-tests : {payload : ℕ} {image : List ℕ} {kind n last : ℕ} {unit rest : List ℕ} → IsOrdered payload image kind n last unit rest
-    → is_frame_image payload image ≡ true
+    → holds_frame payload image ≡ true
 IsOrdered-tests {payload} {image} {kind} {n} {last} {unit} {rest} o =
     let least : 8 ≤ payload = o.payload_least in
     let whole : length image ≡ n * payload + 0 = omega (arith, o.whole) in
@@ -150,7 +150,7 @@ IsOrdered-reads {payload} {image} {kind} {n} {last} {unit} {rest} o =
     let unit_is : take (unit_length payload image) (drop header_length image) ≡ unit =
     ap (λ (k : ℕ). take k (drop header_length image)) long ∙ ap (take (length unit)) o.unit_is ∙ take_at unit rest (length unit) refl in
     let kind_is : kind_of (slice_index image 3) ≡ kind = ap kind_of o.kind_is ∙ (kind_known kind o.known).1 in
-    cond-true (is_frame_image payload image)
+    cond-true (holds_frame payload image)
     (Some (frame_with (kind_of (slice_index image 3)) (take (unit_length payload image) (drop header_length image)))) None (IsOrdered-tests o)
     ∙ ap (λ (k : ℕ). Some (frame_with k (take (unit_length payload image) (drop header_length image)))) kind_is
     ∙ ap (λ (u : List ℕ). Some (frame_with kind u)) unit_is

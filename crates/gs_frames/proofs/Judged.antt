@@ -4,12 +4,13 @@ use Rattle.std.specs.Prelude.{nat_le, nat_lt, ◌==◌, if◌then◌else◌}
 use Rattle.std.specs.List.{filter, list_any}
 use Rattle.std.proofs.lemmas.Bool.{cases_Bool, eq-eqb}
 use Rattle.std.proofs.lemmas.Bool.Decides.{nat_tests}
+use Rattle.std.proofs.Math.Bool.{and_assoc}
 use Rattle.gs_frames.specs.declared.verdict.Added.{Added}
 use Rattle.gs_frames.specs.declared.verdict.Added.TheVariants.{Foreign, Old, Repeat, Spare}
 use Rattle.gs_frames.specs.declared.verdict.Why.TheVariants.{Shape as OtherShape}
 use Rattle.gs_frames.specs.Received.{Received, greatest, is_left, oldest, is_of_frame, is_of_block}
 use Rattle.gs_frames.specs.Verdict.{shape_came, shape_had, is_same_shape, shape_said, first_or, is_repeat, is_spare, is_frame_whole, is_block_whole, made_whole}
-use Rattle.gs_frames.specs.Verdict.{judged, is_counted, counting}
+use Rattle.gs_frames.specs.Verdict.{judged, is_counting, counting}
 
 -- ---- the five tests
 
@@ -52,10 +53,6 @@ any_of-filter test other (r ∷ rs) =
 flip : (m n : ℕ) → (m == n) ≡ (n == m)
 flip m n = grind (arith, nat_tests)
 
-and_grouped : (a b c : Bool) → (a && b && c) ≡ (a && (b && c))
-and_grouped true b c = refl
-and_grouped false b c = refl
-
 -- the shape is the same where each part is
 same_shape-parts : (r : Received) (first_of_frame first_of_block : Option Received)
     → is_same_shape (shape_said (first_or r first_of_frame) (first_or r first_of_block)) (shape_came r)
@@ -64,15 +61,15 @@ same_shape-parts r None None =
     rw (eq-eqb r.head.last_block r.head.last_block refl, eq-eqb r.head.shards r.head.shards refl, eq-eqb r.head.percentage r.head.percentage refl) refl
 same_shape-parts r (Some f) None =
     rw (flip f.head.last_block r.head.last_block, eq-eqb r.head.shards r.head.shards refl, eq-eqb r.head.percentage r.head.percentage refl)
-    (and_grouped (r.head.last_block == f.head.last_block) true true)
+    (and_assoc (r.head.last_block == f.head.last_block) true true)
 same_shape-parts r None (Some b) =
     rw (flip b.head.shards r.head.shards, flip b.head.percentage r.head.percentage, eq-eqb r.head.last_block r.head.last_block refl) refl
 same_shape-parts r (Some f) (Some b) =
     rw (flip f.head.last_block r.head.last_block, flip b.head.shards r.head.shards, flip b.head.percentage r.head.percentage)
-    (and_grouped (r.head.last_block == f.head.last_block) (r.head.shards == b.head.shards) (r.head.percentage == b.head.percentage))
+    (and_assoc (r.head.last_block == f.head.last_block) (r.head.shards == b.head.shards) (r.head.percentage == b.head.percentage))
 
 -- what a shard makes whole, it counts
-pub made_whole-counts : (r : Received) (counted : List Received) → is_counted (made_whole r counted) ≡ true
+pub made_whole-counts : (r : Received) (counted : List Received) → is_counting (made_whole r counted) ≡ true
 made_whole-counts r counted = elim (cases_Bool (is_frame_whole counted r.head.frame r.head.last_block)) [
   | inl frame ↦ rw frame refl
   | inr not_frame ↦
@@ -87,8 +84,8 @@ abbrev pub by_tests : Bool → Bool → Bool → Bool → Added → Added → Ad
 by_tests left same repeat spare old foreign made =
     if left then old else (if not same then foreign else (if repeat then Repeat else (if spare then Spare else made)))
 
-by_tests-counts : (left same repeat spare : Bool) (old foreign made : Added) → is_counted old ≡ false → is_counted foreign ≡ false → is_counted made ≡ true
-    → is_counted (by_tests left same repeat spare old foreign made) ≡ (not left && same && not repeat && not spare)
+by_tests-counts : (left same repeat spare : Bool) (old foreign made : Added) → is_counting old ≡ false → is_counting foreign ≡ false → is_counting made ≡ true
+    → is_counting (by_tests left same repeat spare old foreign made) ≡ (not left && same && not repeat && not spare)
 by_tests-counts true same repeat spare old foreign made o f m = o
 by_tests-counts false false repeat spare old foreign made o f m = f
 by_tests-counts false true true spare old foreign made o f m = refl
@@ -99,7 +96,7 @@ less-not : (m n : ℕ) → not (nat_le n m) ≡ nat_lt m n
 less-not m n = grind (arith, nat_tests)
 
 -- a datagram of the session counts where it passes the five tests
-pub judged-counts : (w : ℕ) (r : Received) (before counted : List Received) → is_counted (judged w r before counted) ≡ counts w r before counted
+pub judged-counts : (w : ℕ) (r : Received) (before counted : List Received) → is_counting (judged w r before counted) ≡ counts w r before counted
 judged-counts w r before counted =
     let left = is_left w before r.head.frame in
     let of_frame = same_frame r (oldest (is_of_frame r.head.frame) before) in
@@ -115,7 +112,7 @@ judged-counts w r before counted =
     (any_of-filter (is_of_block r.head.frame r.head.block) (λ c. c.head.index == r.head.index) counted)
     ∙ ap (λ (b : Bool). not left && (of_frame && of_block) && not (list_any (is_shard r.head.frame r.head.block r.head.index) counted) && b)
     (less-not (length held) r.head.shards)
-    ∙ ap (λ (b : Bool). b && not (list_any (is_shard r.head.frame r.head.block r.head.index) counted) && room) (sym (and_grouped (not left) of_frame of_block))
+    ∙ ap (λ (b : Bool). b && not (list_any (is_shard r.head.frame r.head.block r.head.index) counted) && room) (sym (and_assoc (not left) of_frame of_block))
 
 -- ---- what counts
 

@@ -9,7 +9,7 @@ use Rattle.std.proofs.lemmas.List.Elements.{All-head, All-tail, All-map, All-wea
 use Rattle.gs_rs.specs.Shape.{video_code}
 use Rattle.gs_rtp.specs.Stream.{StreamSettings}
 use Rattle.gs_frames.specs.Shards.{payload_of, block_shards}
-use Rattle.gs_frames.specs.Datagrams.{Place, plan_of, OutgoingFrame, frame_datagrams, headed_shard, headed_shards, headed_blocks, frame_shards}
+use Rattle.gs_frames.specs.Datagrams.{Place, unit_plan, OutgoingFrame, frame_datagrams, headed_shard, headed_shards, headed_blocks, frame_shards}
 use Rattle.gs_frames.specs.Image.{Frame, frame_image}
 use Rattle.gs_frames.specs.Plan.{BlockPlan}
 use Rattle.gs_frames.specs.Client.{ClientSettings, HasWindow, Datagram, datagrams}
@@ -48,7 +48,7 @@ taken-numbers c sent rs d (k ∷ ks) e within =
     ∙ ap (λ (l : List Received). get_or rs k d ∷ l) (taken-numbers c sent rs d ks e (All-tail (λ n. n < length rs) k ks within))
 
 -- as much is received of a block as it has shards
-length-headed_shards : (s : StreamSettings) (place : Place) (plan : BlockPlan) (count index : ℕ) (shards : List (List ℕ))
+pub length-headed_shards : (s : StreamSettings) (place : Place) (plan : BlockPlan) (count index : ℕ) (shards : List (List ℕ))
     → length (headed_shards s place plan count index shards) ≡ length shards
 length-headed_shards s place plan count index [] = refl
 length-headed_shards s place plan count index (shard ∷ shards) =
@@ -72,7 +72,7 @@ only_block plan other (suc block) e = cc
 -- numbers of a frame's datagrams, where the frame is one block: as many as it has data shards, no two the same
 pub record IsOneBlock (s : StreamSettings) (out : OutgoingFrame) (plan : BlockPlan) (ks : List ℕ) : Type 0 where
   pub sent : IsSent s out
-  pub planned : plan_of s out.unit ≡ plan ∷ []
+  pub planned : unit_plan s out.unit ≡ plan ∷ []
   pub within : All (λ k. k < plan.data_shards + plan.parity_shards) ks
   pub distinct : AllPairs (λ m n. m ≢ n) ks
   pub counted : length ks ≡ plan.data_shards
@@ -87,7 +87,7 @@ block_received s out plan =
     headed_shards s (place_at out.frame out.time 0 0) plan out.count 0 (block_shards s plan out.count (frame_image out.kind out.unit (payload_of s)))
 
 -- they are all that is received of the frame
-frame_shards-one : (s : StreamSettings) (out : OutgoingFrame) (plan : BlockPlan) → plan_of s out.unit ≡ plan ∷ []
+frame_shards-one : (s : StreamSettings) (out : OutgoingFrame) (plan : BlockPlan) → unit_plan s out.unit ≡ plan ∷ []
     → frame_shards s out ≡ block_received s out plan
 unfolding frame_shards
 frame_shards-one s out plan planned =
@@ -97,7 +97,7 @@ frame_shards-one s out plan planned =
 
 -- and as many as the block has shards
 length-block_received : (s : StreamSettings) (out : OutgoingFrame) (plan : BlockPlan) → IsSent s out
-    → plan_of s out.unit ≡ plan ∷ [] → length (block_received s out plan) ≡ plan.data_shards + plan.parity_shards
+    → unit_plan s out.unit ≡ plan ∷ [] → length (block_received s out plan) ≡ plan.data_shards + plan.parity_shards
 length-block_received s out plan sent planned =
     let image = frame_image out.kind out.unit (payload_of s) in
     let AreBlocks : List BlockPlan → Type 0 = λ plans. AreBlocksOf s plans image in

@@ -1,12 +1,12 @@
 -- Where the blocks of a frame stand in its image, and what is received of each.
 use Rattle.std.proofs.Common.{◌≡◌, ◌≤◌, ◌+◌, ◌-◌, ◌*◌, ℕ, zero, suc, List, [], ◌∷◌, length, drop, Some, refl, ap, subst, ◌∙◌, arith}
 use Rattle.std.specs.List.{All, slice_get}
-use Rattle.std.proofs.lemmas.List.{length-drop}
+use Rattle.std.proofs.lemmas.List.{length-drop, nil_from_length}
 use Rattle.std.proofs.lemmas.List.Elements.{All-nil, All-cons, All-append, All-drop, All-weaker}
 use Rattle.gs_gf256.specs.Field.{IsByte}
 use Rattle.gs_rtp.specs.Stream.{StreamSettings}
 use Rattle.gs_frames.specs.Shards.{payload_of, block_shards}
-use Rattle.gs_frames.specs.Datagrams.{Place, headed_shard, headed_shards, headed_blocks, plan_of, OutgoingFrame, frame_shards}
+use Rattle.gs_frames.specs.Datagrams.{Place, headed_shard, headed_shards, headed_blocks, unit_plan, OutgoingFrame, frame_shards}
 use Rattle.gs_frames.specs.Image.{frame_image}
 use Rattle.gs_frames.specs.Plan.{BlockPlan}
 use Rattle.gs_frames.specs.Received.{Received}
@@ -56,15 +56,10 @@ image_at-bytes size (suc b) [] image bytes = bytes
 image_at-bytes size (suc b) (plan ∷ plans) image bytes =
     image_at-bytes size b plans (drop (plan.data_shards * size) image) (All-drop IsByte (plan.data_shards * size) image bytes)
 
--- behind the last block stands nothing
-none_from-length : (bytes : List ℕ) → length bytes ≡ 0 → bytes ≡ []
-none_from-length [] e = refl
-none_from-length (b ∷ bytes) e = absurd (omega arith)
-
 -- where all blocks are the image
 pub image_at-end : (size : ℕ) (plans : List BlockPlan) (image : List ℕ) → length image ≡ data_total plans * size
     → image_at size (length plans) plans image ≡ []
-image_at-end size [] image whole = none_from-length image (whole ∙ omega arith)
+image_at-end size [] image whole = nil_from_length image (whole ∙ omega arith)
 image_at-end size (plan ∷ plans) image whole =
     let total : data_total (plan ∷ plans) * size ≡ plan.data_shards * size + data_total plans * size =
     ap (λ (n : ℕ). n * size) (data_total-cons plan plans) ∙ omega arith in
@@ -191,7 +186,7 @@ blocks-are s frame time last block count (first ∷ plans) image at (suc b) plan
 pub frame_shards-frame : (s : StreamSettings) (out : OutgoingFrame) → All (λ r. r.head.frame ≡ out.frame) (frame_shards s out)
 unfolding frame_shards
 frame_shards-frame s out =
-    let plans = plan_of s out.unit in
+    let plans = unit_plan s out.unit in
     let last = length plans - 1 in
     let image = frame_image out.kind out.unit (payload_of s) in
     All-weaker (IsFrom out.frame last 0) (λ r. r.head.frame ≡ out.frame) (λ r h. h.frame)

@@ -149,9 +149,9 @@ All-data_shards P Q each d i count (payload ∷ payloads) all =
     (All-data_shards P Q each d (i + 1) (count + 1) payloads (All-tail Q payload payloads all))
 
 -- as many data shards as payloads
-length-data_shards : (d i count : ℕ) (payloads : List (List ℕ)) → length (data_shards_from d i count payloads) ≡ length payloads
-length-data_shards d i count [] = refl
-length-data_shards d i count (payload ∷ payloads) = ap (λ (k : ℕ). suc k) (length-data_shards d (i + 1) (count + 1) payloads)
+pub length-data_shards_from : (d i count : ℕ) (payloads : List (List ℕ)) → length (data_shards_from d i count payloads) ≡ length payloads
+length-data_shards_from d i count [] = refl
+length-data_shards_from d i count (payload ∷ payloads) = ap (λ (k : ℕ). suc k) (length-data_shards_from d (i + 1) (count + 1) payloads)
 
 -- ---- parity shards
 
@@ -243,7 +243,7 @@ unfolding data_is_shard
 are_data_shards s plan count image room enough bytes =
     let payloads = shares plan.data_shards (payload_of s) image in
     record {
-      count = length-data_shards plan.data_shards 0 count payloads ∙ length-shares plan.data_shards (payload_of s) image;
+      count = length-data_shards_from plan.data_shards 0 count payloads ∙ length-shares plan.data_shards (payload_of s) image;
       sizes = All-weaker (IsShard s.packet) (λ shard. length shard ≡ s.packet) (length-shard s.packet) (data_shards_of s plan count image)
           (data_are_shards s plan count image room enough bytes);
       bytes = All-data_shards (All IsByte) (IsPayload s)

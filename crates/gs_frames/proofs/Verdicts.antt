@@ -11,7 +11,7 @@ use Rattle.gs_frames.specs.declared.verdict.Why.{Why}
 use Rattle.gs_frames.specs.declared.verdict.Why.TheVariants.{Grammar, Ssrc}
 use Rattle.gs_frames.specs.Client.{ClientSettings, Arrival, Datagram}
 use Rattle.gs_frames.specs.Received.{Received, carried_shard, of_session, received, taken}
-use Rattle.gs_frames.specs.Verdict.{judged, is_counted, counting, judged_bytes, verdict}
+use Rattle.gs_frames.specs.Verdict.{judged, is_counting, counting, judged_bytes, verdict}
 use Rattle.gs_frames.specs.VerdictLaws.{VerdictSaysWhatCounts, NoOtherCounts}
 use Rattle.gs_frames.proofs.Judged.{judged-counts}
 use Rattle.gs_frames.proofs.Taken.{taken-some, taken-none}
@@ -84,23 +84,23 @@ received-block s bytes r e = of_head (video_head s.packet bytes) refl e
 
 -- ---- what counts
 
-pub counted-not : (c : ClientSettings) (r : Received) (rs : List Received) → is_counted (judged c.window r rs (counting c.window rs)) ≡ false
+pub counted-not : (c : ClientSettings) (r : Received) (rs : List Received) → is_counting (judged c.window r rs (counting c.window rs)) ≡ false
     → counting c.window (r ∷ rs) ≡ counting c.window rs
 counted-not c r rs e = counting-not c.window r rs (sym (judged-counts c.window r rs (counting c.window rs)) ∙ e)
 
-pub counted-one : (c : ClientSettings) (r : Received) (rs : List Received) → is_counted (judged c.window r rs (counting c.window rs)) ≡ true
+pub counted-one : (c : ClientSettings) (r : Received) (rs : List Received) → is_counting (judged c.window r rs (counting c.window rs)) ≡ true
     → counting c.window (r ∷ rs) ≡ r ∷ counting c.window rs
 counted-one c r rs e = counting-one c.window r rs (sym (judged-counts c.window r rs (counting c.window rs)) ∙ e)
 
 pub verdict_says : VerdictSaysWhatCounts
 verdict_says c came bytes passes = elim (by_received c came bytes) [
-  | inl is ↦ absurd (both_ways (is_counted (verdict c came bytes)) (ap is_counted is.foreign) passes)
+  | inl is ↦ absurd (both_ways (is_counting (verdict c came bytes)) (ap is_counting is.foreign) passes)
   | inr is ↦
       record {
         r = is.r;
         is_received = is.is_received;
         counted = ap (counting c.window) (taken-some c (Datagram bytes) came is.r is.is_received)
-            ∙ counted-one c is.r (taken c came) (ap is_counted (sym is.verdict_is) ∙ passes);
+            ∙ counted-one c is.r (taken c came) (ap is_counting (sym is.verdict_is) ∙ passes);
       }
 ]
 
@@ -109,5 +109,5 @@ no_other_counts c came bytes fails = elim (by_received c came bytes) [
   | inl is ↦ ap (counting c.window) (taken-none c (Datagram bytes) came is.nothing)
   | inr is ↦
       ap (counting c.window) (taken-some c (Datagram bytes) came is.r is.is_received)
-      ∙ counted-not c is.r (taken c came) (ap is_counted (sym is.verdict_is) ∙ fails)
+      ∙ counted-not c is.r (taken c came) (ap is_counting (sym is.verdict_is) ∙ fails)
 ]

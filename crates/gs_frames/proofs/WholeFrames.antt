@@ -15,7 +15,7 @@ use Rattle.gs_frames.specs.Image.{Frame}
 use Rattle.gs_frames.specs.Client.{ClientSettings, Arrival, Datagram}
 use Rattle.gs_frames.specs.Received.{Received, received, greatest, is_left, taken, oldest, is_of_frame, is_of_block}
 use Rattle.gs_frames.specs.Verdict.{shape_came, shape_had, is_same_shape, is_repeat, is_spare, has_all, is_block_whole, is_frame_whole, made_whole, judged}
-use Rattle.gs_frames.specs.Verdict.{is_counted, counting, verdict}
+use Rattle.gs_frames.specs.Verdict.{is_counting, counting, verdict}
 use Rattle.gs_frames.specs.Complete.{block_payloads, both, payloads, image_behind, frame_in, complete}
 use Rattle.gs_frames.specs.VerdictLaws.{counting_of, are_whole, has_whole_blocks, MakesFrameWhole, FrameWholeIsExactly, WholeBlocksHaveImage}
 use Rattle.gs_frames.specs.VerdictLaws.{OnlyFrameWholeCompletes, OnlyOwnFrameCompletes}
@@ -141,15 +141,15 @@ made-frame_whole r counted whole =
     (if is_block_whole counted r.head.frame r.head.block then BlockWhole else Held) whole
 
 -- one that counts has the verdict of what it makes whole
-by_tests-made : (left same repeat spare : Bool) (old foreign made : Added) → is_counted old ≡ false → is_counted foreign ≡ false
-    → is_counted (by_tests left same repeat spare old foreign made) ≡ true → by_tests left same repeat spare old foreign made ≡ made
-by_tests-made true same repeat spare old foreign made o f e = absurd (both_ways (is_counted old) o e)
-by_tests-made false false repeat spare old foreign made o f e = absurd (both_ways (is_counted foreign) f e)
+by_tests-made : (left same repeat spare : Bool) (old foreign made : Added) → is_counting old ≡ false → is_counting foreign ≡ false
+    → is_counting (by_tests left same repeat spare old foreign made) ≡ true → by_tests left same repeat spare old foreign made ≡ made
+by_tests-made true same repeat spare old foreign made o f e = absurd (both_ways (is_counting old) o e)
+by_tests-made false false repeat spare old foreign made o f e = absurd (both_ways (is_counting foreign) f e)
 by_tests-made false true true spare old foreign made o f e = absurd (both_ways false refl e)
 by_tests-made false true false true old foreign made o f e = absurd (both_ways false refl e)
 by_tests-made false true false false old foreign made o f e = refl
 
-judged-made : (w : ℕ) (r : Received) (before counted : List Received) → is_counted (judged w r before counted) ≡ true
+judged-made : (w : ℕ) (r : Received) (before counted : List Received) → is_counting (judged w r before counted) ≡ true
     → judged w r before counted ≡ made_whole r (r ∷ counted)
 judged-made w r before counted e =
     by_tests-made (is_left w before r.head.frame) (is_same_shape (shape_had r before counted) (shape_came r)) (is_repeat r counted) (is_spare r counted)
@@ -159,7 +159,7 @@ judged-made w r before counted e =
 
 -- a datagram that counts makes its frame whole where the verdict says so
 counted-whole : (c : ClientSettings) (came : List Arrival) (bytes : List ℕ) (r : Received) → received c.stream bytes ≡ Some r
-    → is_counted (judged c.window r (taken c came) (counting c.window (taken c came))) ≡ true
+    → is_counting (judged c.window r (taken c came) (counting c.window (taken c came))) ≡ true
     → (has_whole_blocks c came r.head.frame ≡ false)
     × (has_whole_blocks c (Datagram bytes ∷ came) r.head.frame ≡ is_frame_whole (r ∷ counting c.window (taken c came)) r.head.frame r.head.last_block)
 counted-whole c came bytes r is one =
@@ -193,7 +193,7 @@ passed-whole w f r rs None e =
     none-are_whole (counting w rs) f (oldest (is_of_frame f) (r ∷ rs)) (NoneOf-counting w f rs (NoneOf-from_oldest f rs e))
 
 not_counted-whole : (c : ClientSettings) (came : List Arrival) (bytes : List ℕ) (r : Received) (f : ℕ) → received c.stream bytes ≡ Some r
-    → is_counted (judged c.window r (taken c came) (counting c.window (taken c came))) ≡ false
+    → is_counting (judged c.window r (taken c came) (counting c.window (taken c came))) ≡ false
     → has_whole_blocks c (Datagram bytes ∷ came) f ≡ has_whole_blocks c came f
 not_counted-whole c came bytes r f is fails =
     let rs = taken c came in
@@ -207,7 +207,7 @@ makes-whole : (c : ClientSettings) (came : List Arrival) (bytes : List ℕ) → 
 makes-whole c came bytes is e =
     let rs = taken c came in
     let counted = counting c.window rs in
-    let one : is_counted (judged c.window is.r rs counted) ≡ true = ap is_counted (sym is.verdict_is ∙ e) in
+    let one : is_counting (judged c.window is.r rs counted) ≡ true = ap is_counting (sym is.verdict_is ∙ e) in
     let both = counted-whole c came bytes is.r is.is_received one in
     let made = sym (judged-made c.window is.r rs counted one) ∙ sym is.verdict_is ∙ e in
     record {
@@ -226,7 +226,7 @@ whole-makes c came bytes is makes =
     let same : makes.r ≡ is.r = cc in
     let not_before = subst (λ (r : Received). has_whole_blocks c came r.head.frame ≡ false) same makes.not_before in
     let now = subst (λ (r : Received). has_whole_blocks c (Datagram bytes ∷ came) r.head.frame ≡ true) same makes.now in
-    elim (cases_Bool (is_counted (judged c.window is.r rs counted))) [
+    elim (cases_Bool (is_counting (judged c.window is.r rs counted))) [
       | inr fails ↦
           absurd (both_ways (has_whole_blocks c came is.r.head.frame) not_before
           (sym (not_counted-whole c came bytes is.r is.r.head.frame is.is_received fails) ∙ now))
@@ -270,7 +270,7 @@ judged-other c came bytes f is not_frame =
     ∙ elim (cases_eq r.head.frame f) [
       | inr other ↦ complete-other c r rs f (ne_eqb r.head.frame f other)
       | inl own ↦
-          elim (cases_Bool (is_counted (judged c.window r rs counted))) [
+          elim (cases_Bool (is_counting (judged c.window r rs counted))) [
             | inr fails ↦ complete-passed c r rs (counted-not c r rs fails) f
             | inl one ↦
                 let both = counted-whole c came bytes r is.is_received one in

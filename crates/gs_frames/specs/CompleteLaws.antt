@@ -4,7 +4,7 @@ use Rattle.std.specs.List.{slice_get}
 use Rattle.gs_frames.specs.Client.{ClientSettings}
 use Rattle.gs_frames.specs.Image.{Frame}
 use Rattle.gs_frames.specs.Plan.{BlockPlan}
-use Rattle.gs_frames.specs.Datagrams.{plan_of, OutgoingFrame, frame_shards}
+use Rattle.gs_frames.specs.Datagrams.{unit_plan, OutgoingFrame, frame_shards}
 use Rattle.gs_frames.specs.Received.{Received, is_of_block}
 use Rattle.gs_frames.specs.Complete.{IsComplete}
 use Rattle.gs_frames.specs.FrameLaws.{IsSent}
@@ -42,6 +42,6 @@ EnoughCompleteFrame =
     (client : ClientSettings) (out : OutgoingFrame) (rs : List Received)
     → IsSent client.stream out → ComesFrom (frame_shards client.stream out) out.frame rs
     → All (λ r. r.head.frame < out.frame + client.window) rs
-    → ((block : ℕ) (plan : BlockPlan) → slice_get (plan_of client.stream out.unit) block ≡ Some plan
+    → ((block : ℕ) (plan : BlockPlan) → slice_get (unit_plan client.stream out.unit) block ≡ Some plan
     → HasEnough rs out.frame block plan.data_shards)
     → IsComplete client rs out.frame (record { kind = out.kind; unit = out.unit })

@@ -62,8 +62,8 @@ headed_blocks settings place count (plan ∷ plans) image =
     ++ headed_blocks settings (next_block place) (count + plan.data_shards + plan.parity_shards) plans
     (drop (plan.data_shards * payload_of settings) image)
 
-abbrev pub plan_of : StreamSettings → List ℕ → List BlockPlan
-plan_of settings unit = fec_plan (packets (length unit) (payload_of settings)) settings.percentage settings.minimum
+abbrev pub unit_plan : StreamSettings → List ℕ → List BlockPlan
+unit_plan settings unit = fec_plan (packets (length unit) (payload_of settings)) settings.percentage settings.minimum
 
 -- a frame that goes out: how many datagrams of its session went out before it, its number, its kind, the time of its
 -- tick in ms, and its unit
@@ -81,7 +81,7 @@ first_place out plans = record { frame = out.frame; time = out.time; block = 0; 
 -- its shards, each with the head of its datagram
 unfoldable pub frame_shards : StreamSettings → OutgoingFrame → List Received
 frame_shards settings out =
-    headed_blocks settings (first_place out (plan_of settings out.unit)) out.count (plan_of settings out.unit)
+    headed_blocks settings (first_place out (unit_plan settings out.unit)) out.count (unit_plan settings out.unit)
     (frame_image out.kind out.unit (payload_of settings))
 
 -- Its datagrams.

@@ -2,7 +2,7 @@
 use Rattle.std.specs.Prelude.{ℕ, ◌≡◌, ◌+◌, ◌-◌, ◌*◌, ◌/◌, ◌%◌, Bool, ◌&&◌, ◌||◌, not, List, [], ◌∷◌, ◌++◌, length, take}
 use Rattle.std.specs.Prelude.{drop, replicate, slice_index, Option, Some, None, nat_le, ◌==◌, if◌then◌else◌}
 use Rattle.byteorder.specs.Endian.{little_bytes, little_number}
-use Rattle.gs_rtp.specs.Limits.{most_last_block, most_shards_of_block}
+use Rattle.gs_rtp.specs.Limits.{most_blocks, most_shards_of_block}
 
 -- division that rounds up, by a number that isn't 0
 abbrev pub ceil_div : ℕ → ℕ → ℕ
@@ -47,12 +47,12 @@ last_read image = little_number 2 (drop 4 image)
 
 -- the most packets of a frame: each block with the most data shards
 abbrev pub most_packets : ℕ
-most_packets = (most_last_block + 1) * most_shards_of_block
+most_packets = most_blocks * most_shards_of_block
 
 -- Whole payloads of eight bytes or more behind a header in order: the mark, a known kind, and a last
 -- payload that isn't empty, fits, and has room for the header where it is the only one.
-abbrev pub is_frame_image : ℕ → List ℕ → Bool
-is_frame_image payload image =
+abbrev pub holds_frame : ℕ → List ℕ → Bool
+holds_frame payload image =
     nat_le header_length payload && length image % payload == 0
     && nat_le 1 (length image / payload) && nat_le (length image / payload) most_packets
     && slice_index image 0 == 1 && is_kind (slice_index image 3)
@@ -66,7 +66,7 @@ unit_length payload image = (length image / payload - 1) * payload + last_read i
 -- the frame that an image of these payloads holds; what follows the unit has no meaning
 unfoldable pub frame_of : ℕ → List ℕ → Option Frame
 frame_of payload image =
-    if is_frame_image payload image
+    if holds_frame payload image
     then Some (record {
       kind = kind_of (slice_index image 3);
       unit = take (unit_length payload image) (drop header_length image);

@@ -11,9 +11,9 @@ use Rattle.gs_frames.specs.Settled.{settled}
 use Rattle.gs_frames.specs.Handed.{Handed, settled_at_resets, has_idr_since, handed}
 
 -- what a block holds: the shards that counted, the newest first, or, where it is whole, its payloads
-pub data Content : Type 0 where
-  Shards : List HeldShard → Content
-  Payloads : List ℕ → Content
+pub data FrameContent : Type 0 where
+  Shards : List HeldShard → FrameContent
+  Payloads : List ℕ → FrameContent
 
 -- a block of which something counted: its number of data shards, its percentage, and the numbers of the shards that
 -- counted, the newest first
@@ -21,7 +21,7 @@ pub record KeptBlock : Type 0 where
   pub shards : ℕ
   pub percentage : ℕ
   pub numbers : List ℕ
-  pub content : Content
+  pub content : FrameContent
 
 -- an open frame: its last block, where a datagram of it came; each of its blocks up to that one, where something of
 -- it counted; its kind, where it is complete
@@ -40,9 +40,9 @@ pub record Kept : Type 0 where
   pub last_handed : ℕ
   pub waits_for_idr : Bool
 
-abbrev pub content_of : List Received → Option (List ℕ) → Content
-content_of held None = Shards (map held_shard held)
-content_of held (Some payloads) = Payloads payloads
+abbrev pub frame_content : List Received → Option (List ℕ) → FrameContent
+frame_content held None = Shards (map held_shard held)
+frame_content held (Some payloads) = Payloads payloads
 
 abbrev pub kept_shards : ClientSettings → List Received → Option Received → Option KeptBlock
 kept_shards client held None = None
@@ -50,7 +50,7 @@ kept_shards client held (Some first) = Some (record {
   shards = first.head.shards;
   percentage = first.head.percentage;
   numbers = map (λ r. r.head.index) held;
-  content = content_of held (block_payloads client.stream held (Some first));
+  content = frame_content held (block_payloads client.stream held (Some first));
 })
 
 abbrev pub kept_block : ClientSettings → List Received → ℕ → ℕ → Option KeptBlock
@@ -83,9 +83,9 @@ last_of (h ∷ []) = h.frame
 last_of (h ∷ g ∷ hs) = last_of (g ∷ hs)
 
 -- a reset came, and no IDR frame was handed behind the last one
-abbrev pub is_waiting : List Handed → List ℕ → Bool
-is_waiting frames [] = false
-is_waiting frames (reset ∷ resets) = not (has_idr_since frames (Some reset))
+abbrev pub waits_for_idr_frame : List Handed → List ℕ → Bool
+waits_for_idr_frame frames [] = false
+waits_for_idr_frame frames (reset ∷ resets) = not (has_idr_since frames (Some reset))
 
 unfoldable pub kept : ClientSettings → List Arrival → Kept
 kept client came = record {
@@ -93,7 +93,7 @@ kept client came = record {
   open_frames = map (kept_frame client (taken client came)) (open_numbers client.window (greatest (taken client came)));
   settled = settled client (taken client came);
   last_handed = last_of (handed client came);
-  waits_for_idr = is_waiting (handed client came) (settled_at_resets client came);
+  waits_for_idr = waits_for_idr_frame (handed client came) (settled_at_resets client came);
 }
 
 -- what is kept is that of all that the client was given

@@ -5,7 +5,7 @@ use Rattle.gs_frames.specs.Client.{ClientSettings, Arrival}
 use Rattle.gs_frames.specs.Received.{taken}
 use Rattle.gs_frames.specs.Settled.{settled}
 use Rattle.gs_frames.specs.Handed.{Handed, is_re_entry, settled_at_resets, is_handed}
-use Rattle.gs_frames.specs.Kept.{Kept, last_of, is_waiting, kept}
+use Rattle.gs_frames.specs.Kept.{Kept, last_of, waits_for_idr_frame, kept}
 
 abbrev pub nothing_kept : Kept
 nothing_kept = record { greatest = 0; open_frames = []; settled = 0; last_handed = 0; waits_for_idr = false }
@@ -32,4 +32,4 @@ LastHandedTellsNext =
     (client : ClientSettings) (came : List Arrival) (hs : List Handed) (frame kind : ℕ)
     → settled client (taken client came) < frame → AreBelow frame hs
     → is_handed (settled_at_resets client came) hs frame kind
-    ≡ is_handed_next (last_of hs) (is_waiting hs (settled_at_resets client came)) frame kind
+    ≡ is_handed_next (last_of hs) (waits_for_idr_frame hs (settled_at_resets client came)) frame kind

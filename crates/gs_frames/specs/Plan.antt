@@ -1,7 +1,8 @@
 -- How a frame of n packets is parted into blocks of shards for the erasure code.
 use Rattle.std.specs.Prelude.{ℕ, ◌+◌, ◌-◌, ◌*◌, ◌/◌, Bool, ◌&&◌, List, [], ◌∷◌, ◌++◌, map, replicate, nat_lt, nat_le}
 use Rattle.std.specs.Prelude.{if◌then◌else◌}
-use Rattle.gs_rtp.specs.Limits.{most_last_block, most_shards_of_block}
+pub use Rattle.gs_rtp.specs.Limits.{most_blocks}
+use Rattle.gs_rtp.specs.Limits.{most_shards_of_block}
 use Rattle.gs_rtp.specs.Video.{parity_count}
 use Rattle.gs_frames.specs.Image.{ceil_div}
 
@@ -14,10 +15,6 @@ pub record BlockPlan : Type 0 where
 -- the most data shards that leave room for their parity among 255 shards
 abbrev pub most_shards : ℕ → ℕ
 most_shards percentage = 25500 / (100 + percentage)
-
--- the most blocks of a frame
-abbrev pub most_blocks : ℕ
-most_blocks = most_last_block + 1
 
 abbrev pub most_bare : ℕ
 most_bare = most_shards_of_block

@@ -4,7 +4,7 @@ use Rattle.std.specs.Prelude.{if◌then◌else◌}
 use Rattle.byteorder.specs.Endian.{little_bytes, little_number}
 use Rattle.gs_rs.specs.Shape.{video_code}
 use Rattle.gs_rs.specs.Shards.{with_parity_shards}
-use Rattle.gs_rtp.specs.Limits.{most_packet}
+use Rattle.gs_rtp.specs.Limits.{least_packet, most_packet}
 use Rattle.gs_rtp.specs.Stream.{StreamSettings}
 use Rattle.gs_frames.specs.Plan.{BlockPlan}
 
@@ -12,7 +12,10 @@ use Rattle.gs_frames.specs.Plan.{BlockPlan}
 abbrev pub packet_header : ℕ
 packet_header = 16
 
--- the most bytes of a payload
+-- the least and the most bytes of a payload
+abbrev pub least_payload : ℕ
+least_payload = least_packet - packet_header
+
 abbrev pub most_payload : ℕ
 most_payload = most_packet - packet_header
 

@@ -81,20 +81,20 @@ judged window r before counted =
     else made_whole r (r ∷ counted))))
 
 -- the datagram counts: its shard is held from then on
-abbrev pub is_counted : Added → Bool
-is_counted (Foreign why) = false
-is_counted (Old current) = false
-is_counted Repeat = false
-is_counted Spare = false
-is_counted Held = true
-is_counted BlockWhole = true
-is_counted FrameWhole = true
+abbrev pub is_counting : Added → Bool
+is_counting (Foreign why) = false
+is_counting (Old current) = false
+is_counting Repeat = false
+is_counting Spare = false
+is_counting Held = true
+is_counting BlockWhole = true
+is_counting FrameWhole = true
 
 -- those that count, of what was taken
 unfoldable pub counting : ℕ → List Received → List Received
 counting window [] = []
 counting window (r ∷ rs) =
-    if is_counted (judged window r rs (counting window rs)) then r ∷ counting window rs else counting window rs
+    if is_counting (judged window r rs (counting window rs)) then r ∷ counting window rs else counting window rs
 
 abbrev pub judged_of_session : ClientSettings → List Received → Received → Added
 judged_of_session client rs r =

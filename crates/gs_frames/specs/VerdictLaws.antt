@@ -3,7 +3,7 @@ use Rattle.std.specs.Prelude.{ℕ, ◌≡◌, ◌≢◌, ◌↔◌, Bool, true, 
 use Rattle.gs_frames.specs.declared.verdict.Added.TheVariants.{FrameWhole}
 use Rattle.gs_frames.specs.Client.{ClientSettings, Arrival, Datagram}
 use Rattle.gs_frames.specs.Received.{Received, IsReceived, taken, oldest, is_of_frame}
-use Rattle.gs_frames.specs.Verdict.{is_counted, counting, is_frame_whole, verdict}
+use Rattle.gs_frames.specs.Verdict.{is_counting, counting, is_frame_whole, verdict}
 use Rattle.gs_frames.specs.Complete.{complete, image_behind}
 
 -- what counts, of all that the client was given
@@ -20,13 +20,13 @@ pub record CountsOneMore (client : ClientSettings) (came : List Arrival) (bytes 
 abbrev pub VerdictSaysWhatCounts : Type 0
 VerdictSaysWhatCounts =
     (client : ClientSettings) (came : List Arrival) (bytes : List ℕ)
-    → is_counted (verdict client came bytes) ≡ true → CountsOneMore client came bytes
+    → is_counting (verdict client came bytes) ≡ true → CountsOneMore client came bytes
 
 -- No other counts.
 abbrev pub NoOtherCounts : Type 0
 NoOtherCounts =
     (client : ClientSettings) (came : List Arrival) (bytes : List ℕ)
-    → is_counted (verdict client came bytes) ≡ false
+    → is_counting (verdict client came bytes) ≡ false
     → counting_of client (Datagram bytes ∷ came) ≡ counting_of client came
 
 abbrev pub are_whole : List Received → ℕ → Option Received → Bool

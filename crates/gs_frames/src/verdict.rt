@@ -24,7 +24,8 @@ pub enum Why {
     Grammar,
     /// Its ssrc is another session's.
     Ssrc { came: u32 },
-    /// What it says of its frame and block isn't what the first datagrams of these said.
+    /// What it says of its frame and block isn't what the first datagrams of these said. `came` is what it says, and
+    /// `had` what they said; where none of its block came, `had` has the datagram's own shards and percentage.
     Shape { had: Shape, came: Shape },
 }
 

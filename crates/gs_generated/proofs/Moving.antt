@@ -1,6 +1,5 @@
 -- Bytes are moved out of a part.
-use Rattle.std.proofs.Common.{◌≡◌, ◌+◌, ℕ, List, ◌++◌, ◌-◌, length, length-drop, take, drop, sym, ap, ◌∙◌, append_assoc, take-append-drop}
-use Rattle.std.proofs.Math.Seq.{take-length}
+use Rattle.std.proofs.Common.{◌≡◌, ◌+◌, ℕ, List, ◌++◌, take, drop, sym, ap, ◌∙◌, append_assoc, take-append-drop}
 use Rattle.std.proofs.lemmas.List.{drop-drop}
 
 -- behind a front some of what is left of a part is moved
@@ -13,7 +12,3 @@ moved front part rest at n =
     ap (λ (l : List ℕ). front ++ (l ++ rest)) parts
     ∙ ap (λ (l : List ℕ). front ++ l) (append_assoc (take n left) (drop (at + n) part) rest)
     ∙ sym (append_assoc front (take n left) (drop (at + n) part ++ rest))
-
--- behind a place there is as much as is left
-pub rest_whole : (part : List ℕ) (at : ℕ) → take (length part - at) (drop at part) ≡ drop at part
-rest_whole part at = ap (λ (k : ℕ). take k (drop at part)) (sym (length-drop at part)) ∙ take-length (drop at part)

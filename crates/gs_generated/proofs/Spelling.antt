@@ -4,12 +4,12 @@ use Rattle.std.specs.Prelude.{take, drop}
 use Rattle.std.proofs.lemmas.List.Elements.{All-cons, All-nil}
 use Rattle.gs_tape.specs.Tick.{Delta, Tick}
 use Rattle.gs_tape.specs.Limits.{AreDeltasBetween, most_count, most_unit}
-use Rattle.gs_tape.specs.Writer.{Writing, after_tick, opened}
-use Rattle.gs_tape.specs.Generated.{generated, ticks_from, tick, to_come}
+use Rattle.gs_tape.specs.Writer.{TapeWriting, after_tick, opened_writing}
+use Rattle.gs_tape.specs.Generated.{generated, ticks_from, tick, ticks_to_come}
 use Rattle.gs_tape.proofs.GeneratedWithin.{generated_is_writable}
 use Rattle.gs_tape.proofs.GeneratedFile.{AreNext, all_next, first_next, others_next}
 use Rattle.gs_generated.specs.declared.unspelled.Unspelled.{Unspelled}
-use Rattle.gs_generated.specs.Remaining.{IsSound, ticks_left, with_tick}
+use Rattle.gs_generated.specs.Remaining.{IsUnspelledSound, ticks_left, tick_before}
 
 -- what its spelling wants of a tick
 pub record KeepsLimits (t : Tick) : Type 0 where
@@ -30,20 +30,20 @@ none_left : (t : Tick) (ts : List Tick) → [] ≡ t ∷ ts → ⊥
 none_left t ts is = let n : length {A = Tick} [] ≡ length (t ∷ ts) = ap (λ (l : List Tick). length l) is in omega (arith, n)
 
 -- a writer behind these ticks
-abbrev all_after : Writing → List Tick → Writing
+abbrev all_after : TapeWriting → List Tick → TapeWriting
 all_after w [] = w
 all_after w (t ∷ ts) = all_after (after_tick w t) ts
 
-next_at : (w : Writing) (all : List Tick) (k : ℕ) → AreNext w all → AreNext (all_after w (take k all)) (drop k all)
+next_at : (w : TapeWriting) (all : List Tick) (k : ℕ) → AreNext w all → AreNext (all_after w (take k all)) (drop k all)
 next_at w all zero next = next
 next_at w [] (suc k) next = next
 next_at w (t ∷ ts) (suc k) next = next_at (after_tick w t) ts k (others_next w (after_tick w t) (t ∷ ts) ts t refl refl next)
 
 -- the first tick that is left keeps the limits of a file
-pub keeps_limits : (u : Unspelled) (t : Tick) (ts : List Tick) → IsSound u → ticks_left u ≡ t ∷ ts → KeepsLimits t
+pub keeps_limits : (u : Unspelled) (t : Tick) (ts : List Tick) → IsUnspelledSound u → ticks_left u ≡ t ∷ ts → KeepsLimits t
 keeps_limits u t ts sound is =
     let all : List Tick = generated u.number u.ticks in
-    let next = next_at (opened 240) all u.spelled (all_next 240 5 all (opened 240) refl (generated_is_writable u.number u.ticks sound.few)) in
+    let next = next_at (opened_writing 240) all u.spelled (all_next 240 5 all (opened_writing 240) refl (generated_is_writable u.number u.ticks sound.few)) in
     let first = first_next _ (drop u.spelled all) ts t (sym sound.left ∙ is) next in
     record {
       audio = first.within.audio_most;
@@ -72,11 +72,11 @@ unfolding ticks_from
 length-ticks_from zero t s = refl
 length-ticks_from (suc n) t s = ap suc (length-ticks_from n (t + 1) (tick t s).state)
 
-pub few_spelled : (u : Unspelled) (t : Tick) (ts : List Tick) → IsSound u → ticks_left u ≡ t ∷ ts → u.spelled < 2000
+pub few_spelled : (u : Unspelled) (t : Tick) (ts : List Tick) → IsUnspelledSound u → ticks_left u ≡ t ∷ ts → u.spelled < 2000
 few_spelled u t ts sound is =
     let more : u.spelled < length (generated u.number u.ticks) = some_left (generated u.number u.ticks) u.spelled t ts (sym sound.left ∙ is) in
     omega (arith, more, length-ticks_from u.ticks 1 u.number, sound.few)
 
 -- a tick at hand is the first that is left
-pub at_hand : (u : Unspelled) (t : Tick) → u.tick ≡ Some t → ticks_left u ≡ t ∷ to_come u.generator
-at_hand u t is = ap (λ (o : Option Tick). with_tick o (to_come u.generator)) is
+pub at_hand : (u : Unspelled) (t : Tick) → u.tick ≡ Some t → ticks_left u ≡ t ∷ ticks_to_come u.generator
+at_hand u t is = ap (λ (o : Option Tick). tick_before o (ticks_to_come u.generator)) is

@@ -34,7 +34,8 @@ impl GeneratedFile {
     /// The file of so many ticks that a number generates, of which nothing was read.
     pub fn open(alloc: Global, number: u32, ticks: u32) -> Result<GeneratedFile, OutOfMemory>
         requires { ticks ≤ most_generated }
-        ensures { IfOk result (λ opened. opened.left ≡ file generated_audio generated_duration (generated number ticks)) }
+        ensures { IfOk result (λ opened. opened.left
+            ≡ file generated_audio generated_duration (generated number ticks)) }
     {
         let parts = Parts {
             part: file_head(alloc)?,

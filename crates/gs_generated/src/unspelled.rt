@@ -5,7 +5,7 @@ ghost use Rattle.std.specs.List.{concat};
 ghost use Rattle.gs_tape.specs.Generated.{generated};
 ghost use Rattle.gs_tape.specs.Capture.{head};
 ghost use Rattle.gs_tape.specs.Limits.{generated_audio, generated_duration, most_generated};
-ghost use Rattle.gs_generated.specs.Remaining.{IsSound, ticks_left, bytes_left};
+ghost use Rattle.gs_generated.specs.Remaining.{IsUnspelledSound, ticks_left, bytes_left};
 
 use crate::tick_parts::parts_of;
 use gs_bytes::{OutOfMemory, SureSink};
@@ -47,7 +47,7 @@ impl Unspelled {
     /// The file of so many ticks that a number generates, of which no tick is spelled.
     pub(crate) fn of(number: u32, ticks: u32) -> Unspelled
         requires { ticks ≤ most_generated }
-        ensures sound { IsSound result }
+        ensures sound { IsUnspelledSound result }
         ensures all { ticks_left result ≡ generated number ticks }
     {
         Unspelled {
@@ -61,8 +61,8 @@ impl Unspelled {
 
     // Has the next tick at hand, where one is left.
     fn generate(&mut self, alloc: Global) -> Result<(), OutOfMemory>
-        requires { IsSound self.old }
-        ensures sound { IsSound self.new }
+        requires { IsUnspelledSound self.old }
+        ensures sound { IsUnspelledSound self.new }
         ensures same { ticks_left self.new ≡ ticks_left self.old }
         ensures none { OnOk result (self.new.tick ≡ None → ticks_left self.new ≡ []) }
     {
@@ -74,8 +74,8 @@ impl Unspelled {
 
     /// Spells the next tick, or the end mark behind the last.
     pub(crate) fn next_piece(&mut self, alloc: Global) -> Result<Piece, OutOfMemory>
-        requires { IsSound self.old }
-        ensures sound { IsSound self.new }
+        requires { IsUnspelledSound self.old }
+        ensures sound { IsUnspelledSound self.new }
         ensures bytes { IfOk result (λ piece. bytes_left false self.old
             ≡ concat piece.parts.items ++ bytes_left piece.is_last self.new) }
         ensures some { IfOk result (λ piece. 0 < length (concat piece.parts.items)) }

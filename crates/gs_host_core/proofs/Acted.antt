@@ -16,7 +16,7 @@ use Rattle.gs_stream.specs.Audio.{audio_units}
 use Rattle.gs_host_core.specs.declared.act.Act.{Act}
 use Rattle.gs_host_core.specs.declared.act.Act.TheVariants as act
 use Rattle.gs_host_core.specs.Acts.{with_act, history_behind}
-use Rattle.gs_host_core.specs.Hosting.{Hosting, IsSound, StandsOver}
+use Rattle.gs_host_core.specs.Hosting.{Hosting, IsHostingSound, StandsOver}
 
 -- what no entry but Sent changes stays as it was
 module _ {X : Type 0} (F : List Entry → X) (invalid : (first last : ℕ) (h : List Entry) → F (entry.Invalid first last ∷ h) ≡ F h)
@@ -43,13 +43,13 @@ module _ {X : Type 0} (F : List Entry → X) (invalid : (first last : ℕ) (h : 
     | inr goes_on ↦ ap F (cond-false (has_ended h) h (with_act h a) goes_on) ∙ quiet_with h a
   ]
 
-frames-quiet : (h : List Entry) (a : Act) → frames (history_behind h a) ≡ frames h
+pub frames-quiet : (h : List Entry) (a : Act) → frames (history_behind h a) ≡ frames h
 frames-quiet h a = quiet frames (λ first last l. refl) (λ l. refl) (λ first last l. refl) h a
 
-last-quiet : (h : List Entry) (a : Act) → last_tick (history_behind h a) ≡ last_tick h
+pub last-quiet : (h : List Entry) (a : Act) → last_tick (history_behind h a) ≡ last_tick h
 last-quiet h a = quiet last_tick (λ first last l. refl) (λ l. refl) (λ first last l. refl) h a
 
-video-quiet : (s : StreamSettings) (ticks : List Tick) (h : List Entry) (a : Act) → video_stream s ticks (history_behind h a) ≡ video_stream s ticks h
+pub video-quiet : (s : StreamSettings) (ticks : List Tick) (h : List Entry) (a : Act) → video_stream s ticks (history_behind h a) ≡ video_stream s ticks h
 unfolding video_stream
 video-quiet s ticks h a = quiet (video_stream s ticks) (λ first last l. refl) (λ l. refl) (λ first last l. refl) h a
 
@@ -70,7 +70,7 @@ stands-quiet old new a ticks settings count audio history stands = record {
       (subst (HasPushed old.audio) (sym (ap (audio_units ticks) history ∙ units-quiet ticks old.history a)) stands.audio);
 }
 
-pub sound-quiet : (s : StreamSettings) (h now : List Entry) (x : Sending) (a : Act) → now ≡ history_behind h a → IsSound s h x → IsSound s now x
+pub sound-quiet : (s : StreamSettings) (h now : List Entry) (x : Sending) (a : Act) → now ≡ history_behind h a → IsHostingSound s h x → IsHostingSound s now x
 sound-quiet s h now x a e is =
     let n : frames now ≡ frames h = ap frames e ∙ frames-quiet h a in
     let l : last_tick now ≡ last_tick h = ap last_tick e ∙ last-quiet h a in

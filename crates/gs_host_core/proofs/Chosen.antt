@@ -12,7 +12,7 @@ use Rattle.gs_refs.specs.declared.error.ChooseError.TheVariants as choose_error
 use Rattle.gs_refs.specs.History.{frames, last_tick, has_ended}
 use Rattle.gs_refs.specs.Answers.{next_sent, sent_entry, choose_answer}
 use Rattle.gs_audio.specs.Sending.{Sending}
-use Rattle.gs_host_core.specs.Hosting.{IsSound}
+use Rattle.gs_host_core.specs.Hosting.{IsHostingSound}
 use Rattle.gs_host_core.proofs.Turns.{last-sent}
 
 abbrev later_answer : List Entry → Tick → Result Sent ChooseError
@@ -33,8 +33,8 @@ chosen-above h t s e = elim (cases_Bool (has_ended h)) [
 ]
 
 -- a session that sent a later tick is as sound
-pub sound-sent : (s : StreamSettings) (h : List Entry) (x : Sending) (t : Tick) → last_tick h < t.number → t.number ≤ most_ticks → IsSound s h x
-    → IsSound s (sent_entry (next_sent h t) ∷ h) x
+pub sound-sent : (s : StreamSettings) (h : List Entry) (x : Sending) (t : Tick) → last_tick h < t.number → t.number ≤ most_ticks → IsHostingSound s h x
+    → IsHostingSound s (sent_entry (next_sent h t) ∷ h) x
 sound-sent s h x t above most is =
     let last : last_tick (sent_entry (next_sent h t) ∷ h) ≡ t.number = last-sent h (next_sent h t) in
     let sent : frames (sent_entry (next_sent h t) ∷ h) ≡ frames h + 1 = refl in

@@ -6,6 +6,7 @@ use Rattle.std.specs.List.{All, find, flat_map}
 use Rattle.std.proofs.lemmas.Bool.{cases_Bool, cond-true, cond-false}
 use Rattle.std.proofs.lemmas.List.{append-nil}
 use Rattle.std.proofs.lemmas.List.Elements.{All-head, All-tail}
+use Rattle.std.proofs.lemmas.Option.{same_Some}
 use Rattle.gs_bytes.specs.declared.addr.Addr.{Addr}
 use Rattle.gs_rtp.specs.Stream.{StreamSettings}
 use Rattle.gs_tape.specs.Limits.{most_unit}
@@ -107,9 +108,6 @@ module _ {A : Type 0} (s : StreamSettings) (ticks : List Tick) (h : List Entry) 
 
 -- ---- the unit that goes out
 
-same_unit : (x u : List ℕ) → Some x ≡ Some u → x ≡ u
-same_unit x u e = cc
-
 found_most : (p : Delta → Bool) (ds : List Delta) (u : List ℕ) (most : ℕ) → option_map (λ d. d.unit) (find p ds) ≡ Some u
     → All (λ d. length d.unit ≤ most) ds → length u ≤ most
 found_most p [] u most e all = cc
@@ -117,7 +115,7 @@ found_most p (d ∷ ds) u most e all =
     let unit : Option Delta → Option (List ℕ) = λ o. option_map (λ (x : Delta). x.unit) o in
     elim (cases_Bool (p d)) [
       | inl here ↦
-          let same : d.unit ≡ u = same_unit d.unit u (sym (ap unit (cond-true (p d) (Some d) (find p ds) here)) ∙ e) in
+          let same : d.unit ≡ u = same_Some d.unit u (sym (ap unit (cond-true (p d) (Some d) (find p ds) here)) ∙ e) in
           subst (λ (x : List ℕ). length x ≤ most) same (All-head (λ (x : Delta). length x.unit ≤ most) d ds all)
       | inr other ↦
           found_most p ds u most (sym (ap unit (cond-false (p d) (Some d) (find p ds) other)) ∙ e)
@@ -130,7 +128,7 @@ unit-most s t sent u is e =
     let found = option_map (λ (d : Delta). d.unit) (find (λ d. d.named == sent.named) t.deltas) in
     elim (cases_Bool (sent.kind == 2)) [
       | inl idr ↦
-          let same : t.idr ≡ u = same_unit t.idr u (sym (cond-true (sent.kind == 2) (Some t.idr) found idr) ∙ e) in
+          let same : t.idr ≡ u = same_Some t.idr u (sym (cond-true (sent.kind == 2) (Some t.idr) found idr) ∙ e) in
           subst (λ (x : List ℕ). length x ≤ most_unit) same is.idr
       | inr other ↦
           found_most (λ d. d.named == sent.named) t.deltas u most_unit (sym (cond-false (sent.kind == 2) (Some t.idr) found other) ∙ e) is.deltas

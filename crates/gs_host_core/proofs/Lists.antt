@@ -1,5 +1,5 @@
 -- Lists item by item, and what is said of one of a result's two cases.
-use Rattle.std.proofs.Common.{◌≡◌, ◌<◌, ◌+◌, ℕ, zero, suc, List, [], ◌∷◌, ◌++◌, length, take, drop, get_or, Result, Ok, Err, IfOk, OnOk, OnErr, sym, ap, subst}
+use Rattle.std.proofs.Common.{◌≡◌, ◌<◌, ◌+◌, ℕ, zero, suc, List, [], ◌∷◌, ◌++◌, length, take, drop, get_or, Result, Err, IfOk, OnOk, sym, ap, subst}
 use Rattle.std.proofs.Common.{◌∙◌, arith}
 
 -- the items before one, and the one
@@ -18,14 +18,6 @@ split_next {A} (y ∷ ys) zero x e h = ap (λ (z : A). z ∷ ys) e
 split_next {A} (y ∷ ys) (suc i) x e h =
     let more : suc i + 1 ≡ suc (i + 1) = omega arith in
     ap (λ (n : ℕ). y ∷ (take i ys ++ x ∷ drop n (y ∷ ys))) more ∙ ap (λ (l : List A). y ∷ l) (split_next ys i x e (omega arith))
-
-pub when_ok : {T E : Type 0} (r : Result T E) (P : Type 0) → P → OnOk r P
-when_ok (Ok x) P p = p
-when_ok (Err e) P p = tt
-
-pub when_err : {T E : Type 0} (r : Result T E) (P : Type 0) → P → OnErr r P
-when_err (Ok x) P p = tt
-when_err (Err e) P p = p
 
 -- nothing is said of a success where there is none
 pub if-failed : {T E : Type 0} (r : Result T E) (e : E) (P : T → Type 0) → r ≡ Err e → IfOk r P

@@ -8,7 +8,7 @@ use Rattle.gs_refs.specs.History.{frames, last_tick}
 use Rattle.gs_audio.specs.Sending.{Sending, HasPushed}
 use Rattle.gs_stream.specs.Video.{video_stream}
 use Rattle.gs_stream.specs.Audio.{audio_units}
-use Rattle.gs_host_core.specs.Hosting.{Hosting, IsSound, StandsOver}
+use Rattle.gs_host_core.specs.Hosting.{Hosting, IsHostingSound, StandsOver}
 
 pub stands-fresh : (host : Hosting) (ticks : List Tick) → host.history ≡ [] → host.count ≡ 0 → HasPushed host.audio [] → StandsOver host ticks
 unfolding video_stream audio_units
@@ -17,7 +17,7 @@ stands-fresh host ticks none count pushed = record {
   audio = subst (λ (h : List Entry). HasPushed host.audio (audio_units ticks h)) (sym none) pushed;
 }
 
-pub sound-fresh : (s : StreamSettings) (h : List Entry) (x : Sending) → h ≡ [] → s.packet ≤ most_packet → x.settings ≡ s → x.pushed ≡ 0 → IsSound s h x
+pub sound-fresh : (s : StreamSettings) (h : List Entry) (x : Sending) → h ≡ [] → s.packet ≤ most_packet → x.settings ≡ s → x.pushed ≡ 0 → IsHostingSound s h x
 sound-fresh s h x none packet same pushed =
     let sent : frames h ≡ 0 = ap frames none in
     let last : last_tick h ≡ 0 = ap last_tick none in

@@ -4,10 +4,10 @@ use Rattle.std.proofs.Common.{◌≡◌, ◌≤◌, ◌⊎◌, inl, inr, ℕ, Bo
 use Rattle.std.proofs.lemmas.Bool.{cases_Bool, eqb-true, eq-eqb, leb-true, le-leb, and_parts, not-false}
 use Rattle.gs_input.specs.declared.event.Event.{Event}
 use Rattle.gs_input.specs.declared.event.Event.TheVariants as event
-use Rattle.gs_input.specs.Packet.{IsPacket, has_size, magic_in, body_length, has_length}
+use Rattle.gs_input.specs.Packet.{IsPacket, has_size, magic_in, event_length, has_length}
 use Rattle.gs_host_core.specs.declared.act.Act.{Act}
 use Rattle.gs_host_core.specs.declared.act.Act.TheVariants.{Input, Nothing}
-use Rattle.gs_host_core.specs.ActOf.{event_by, input_act}
+use Rattle.gs_host_core.specs.ActOf.{acted_event, input_act}
 
 -- the third test of a packet, by its magic and its ninth byte
 abbrev bad_at : ℕ → ℕ → Bool
@@ -22,7 +22,7 @@ unless_fault size sized bad done = if is_none (fault_by size sized bad) then don
 -- what is done about a packet, by its magic
 abbrev act_at : ℕ → List ℕ → Act
 act_at magic p =
-    unless_fault (has_size p) (has_length (body_length magic) p) (bad_at magic (slice_index p 8)) (Input (event_by magic p))
+    unless_fault (has_size p) (has_length (event_length magic) p) (bad_at magic (slice_index p 8)) (Input (acted_event magic p))
 
 by_magic : (p : List ℕ) → input_act p ≡ act_at (magic_in p) p
 by_magic p = refl
@@ -83,7 +83,7 @@ event_else false false false false true f g p q r s t u v w h = absurd (let i = 
 event_else false false false false false true g p q r s t u v w h = absurd (let i = h.f_is in cc)
 event_else false false false false false false true p q r s t u v w h = absurd (let i = h.g_is in cc)
 
-unknown_event : (m : ℕ) (p : List ℕ) → AreApart m → event_by m p ≡ event.Unknown m
+unknown_event : (m : ℕ) (p : List ℕ) → AreApart m → acted_event m p ≡ event.Unknown m
 unknown_event m p h = event_else (m == 3) (m == 4) (m == 5) (m == 7) (m == 8) (m == 9) (m == 10) _ _ _ _ _ _ _ _ h
 
 unknown_good : (m byte : ℕ) → AreApart m → bad_at m byte ≡ false
@@ -102,46 +102,46 @@ good_button byte b is least most =
 pub of_packet : (p : List ℕ) (e : Event) → IsPacket p e → input_act p ≡ Input e
 of_packet p (event.KeyDown code modifiers) h =
     let b = h.body.0 in
-    let x : ◌≡◌ {A = Event} (event_by 3 p) (event.KeyDown code modifiers) = (let y = b.1.0 in let z = b.1.1.0 in cc) in
+    let x : ◌≡◌ {A = Event} (acted_event 3 p) (event.KeyDown code modifiers) = (let y = b.1.0 in let z = b.1.1.0 in cc) in
     ap (λ m. act_at m p) h.magic
-    ∙ no_fault (has_size p) (length p == 14) false (Input (event_by 3 p)) h.size (eq-eqb (length p) 14 b.1.1.1.1) refl ∙ ap Input x
+    ∙ no_fault (has_size p) (length p == 14) false (Input (acted_event 3 p)) h.size (eq-eqb (length p) 14 b.1.1.1.1) refl ∙ ap Input x
 of_packet p (event.KeyUp code modifiers) h =
     let b = h.body.0 in
-    let x : ◌≡◌ {A = Event} (event_by 4 p) (event.KeyUp code modifiers) = (let y = b.1.0 in let z = b.1.1.0 in cc) in
+    let x : ◌≡◌ {A = Event} (acted_event 4 p) (event.KeyUp code modifiers) = (let y = b.1.0 in let z = b.1.1.0 in cc) in
     ap (λ m. act_at m p) h.magic
-    ∙ no_fault (has_size p) (length p == 14) false (Input (event_by 4 p)) h.size (eq-eqb (length p) 14 b.1.1.1.1) refl ∙ ap Input x
+    ∙ no_fault (has_size p) (length p == 14) false (Input (acted_event 4 p)) h.size (eq-eqb (length p) 14 b.1.1.1.1) refl ∙ ap Input x
 of_packet p (event.At x y width height) h =
     let b = h.body.0 in
-    let is : ◌≡◌ {A = Event} (event_by 5 p) (event.At x y width height) =
+    let is : ◌≡◌ {A = Event} (acted_event 5 p) (event.At x y width height) =
     (let e = b.0 in let f = b.1.0 in let g = b.1.1.1.0 in let k = b.1.1.1.1.0 in cc) in
     ap (λ m. act_at m p) h.magic
-    ∙ no_fault (has_size p) (length p == 18) false (Input (event_by 5 p)) h.size (eq-eqb (length p) 18 b.1.1.1.1.1) refl ∙ ap Input is
+    ∙ no_fault (has_size p) (length p == 18) false (Input (acted_event 5 p)) h.size (eq-eqb (length p) 18 b.1.1.1.1.1) refl ∙ ap Input is
 of_packet p (event.Move dx dy) h =
     let b = h.body.0 in
-    let is : ◌≡◌ {A = Event} (event_by 7 p) (event.Move dx dy) = (let e = b.0 in let f = b.1.0 in cc) in
+    let is : ◌≡◌ {A = Event} (acted_event 7 p) (event.Move dx dy) = (let e = b.0 in let f = b.1.0 in cc) in
     ap (λ m. act_at m p) h.magic
-    ∙ no_fault (has_size p) (length p == 12) false (Input (event_by 7 p)) h.size (eq-eqb (length p) 12 b.1.1) refl ∙ ap Input is
+    ∙ no_fault (has_size p) (length p == 12) false (Input (acted_event 7 p)) h.size (eq-eqb (length p) 12 b.1.1) refl ∙ ap Input is
 of_packet p (event.Press button) h =
     let b = h.body.0 in
-    let is : ◌≡◌ {A = Event} (event_by 8 p) (event.Press button) = (let e = b.0 in cc) in
+    let is : ◌≡◌ {A = Event} (acted_event 8 p) (event.Press button) = (let e = b.0 in cc) in
     ap (λ m. act_at m p) h.magic
-    ∙ no_fault (has_size p) (length p == 9) (bad_at 8 (slice_index p 8)) (Input (event_by 8 p)) h.size (eq-eqb (length p) 9 b.1)
+    ∙ no_fault (has_size p) (length p == 9) (bad_at 8 (slice_index p 8)) (Input (acted_event 8 p)) h.size (eq-eqb (length p) 9 b.1)
     (good_button (slice_index p 8) button b.0 h.body.1.0 h.body.1.1) ∙ ap Input is
 of_packet p (event.Release button) h =
     let b = h.body.0 in
-    let is : ◌≡◌ {A = Event} (event_by 9 p) (event.Release button) = (let e = b.0 in cc) in
+    let is : ◌≡◌ {A = Event} (acted_event 9 p) (event.Release button) = (let e = b.0 in cc) in
     ap (λ m. act_at m p) h.magic
-    ∙ no_fault (has_size p) (length p == 9) (bad_at 9 (slice_index p 8)) (Input (event_by 9 p)) h.size (eq-eqb (length p) 9 b.1)
+    ∙ no_fault (has_size p) (length p == 9) (bad_at 9 (slice_index p 8)) (Input (acted_event 9 p)) h.size (eq-eqb (length p) 9 b.1)
     (good_button (slice_index p 8) button b.0 h.body.1.0 h.body.1.1) ∙ ap Input is
 of_packet p (event.Scroll amount) h =
     let b = h.body.0 in
-    let is : ◌≡◌ {A = Event} (event_by 10 p) (event.Scroll amount) = (let e = b.0 in cc) in
+    let is : ◌≡◌ {A = Event} (acted_event 10 p) (event.Scroll amount) = (let e = b.0 in cc) in
     ap (λ m. act_at m p) h.magic
-    ∙ no_fault (has_size p) (length p == 14) false (Input (event_by 10 p)) h.size (eq-eqb (length p) 14 b.1.1.1) refl ∙ ap Input is
+    ∙ no_fault (has_size p) (length p == 14) false (Input (acted_event 10 p)) h.size (eq-eqb (length p) 14 b.1.1.1) refl ∙ ap Input is
 of_packet p (event.Unknown magic) h =
     let far : AreApart magic = apart (magic == 3) (magic == 4) (magic == 5) (magic == 7) (magic == 8) (magic == 9) (magic == 10) h.body in
     ap (λ m. act_at m p) h.magic
-    ∙ no_fault (has_size p) (has_length (body_length magic) p) (bad_at magic (slice_index p 8)) (Input (event_by magic p)) h.size
+    ∙ no_fault (has_size p) (has_length (event_length magic) p) (bad_at magic (slice_index p 8)) (Input (acted_event magic p)) h.size
     (ap (λ o. has_length o p) h.body) (unknown_good magic (slice_index p 8) far)
     ∙ ap Input (unknown_event magic p far)
 
@@ -150,7 +150,7 @@ of_packet p (event.Unknown magic) h =
 record Fits (m : ℕ) (p : List ℕ) : Type 0 where
   pub magic : magic_in p ≡ m
   pub size : has_size p ≡ true
-  pub sized : has_length (body_length m) p ≡ true
+  pub sized : has_length (event_length m) p ≡ true
   pub good : bad_at m (slice_index p 8) ≡ false
 
 abbrev pub Packet : List ℕ → Type 0
@@ -163,7 +163,7 @@ buttons byte h =
 
 key_down : (p : List ℕ) → Fits 3 p → Packet p
 key_down p h = (
-  event_by 3 p,
+  acted_event 3 p,
   record {
     size = h.size;
     magic = h.magic;
@@ -173,7 +173,7 @@ key_down p h = (
 
 key_up : (p : List ℕ) → Fits 4 p → Packet p
 key_up p h = (
-  event_by 4 p,
+  acted_event 4 p,
   record {
     size = h.size;
     magic = h.magic;
@@ -183,7 +183,7 @@ key_up p h = (
 
 at_place : (p : List ℕ) → Fits 5 p → Packet p
 at_place p h = (
-  event_by 5 p,
+  acted_event 5 p,
   record {
     size = h.size;
     magic = h.magic;
@@ -193,7 +193,7 @@ at_place p h = (
 
 move : (p : List ℕ) → Fits 7 p → Packet p
 move p h = (
-  event_by 7 p,
+  acted_event 7 p,
   record {
     size = h.size;
     magic = h.magic;
@@ -203,7 +203,7 @@ move p h = (
 
 press : (p : List ℕ) → Fits 8 p → Packet p
 press p h = (
-  event_by 8 p,
+  acted_event 8 p,
   record {
     size = h.size;
     magic = h.magic;
@@ -213,7 +213,7 @@ press p h = (
 
 release : (p : List ℕ) → Fits 9 p → Packet p
 release p h = (
-  event_by 9 p,
+  acted_event 9 p,
   record {
     size = h.size;
     magic = h.magic;
@@ -223,7 +223,7 @@ release p h = (
 
 scroll : (p : List ℕ) → Fits 10 p → Packet p
 scroll p h = (
-  event_by 10 p,
+  acted_event 10 p,
   record {
     size = h.size;
     magic = h.magic;
@@ -285,14 +285,14 @@ packet_or_nothing p = by (cases_Bool a) (cases_Bool b) (cases_Bool c) where
   a = has_size p
 
   b : Bool
-  b = has_length (body_length (magic_in p)) p
+  b = has_length (event_length (magic_in p)) p
 
   c : Bool
   c = bad_at (magic_in p) (slice_index p 8)
 
   by : (a ≡ true) ⊎ (a ≡ false) → (b ≡ true) ⊎ (b ≡ false) → (c ≡ true) ⊎ (c ≡ false) → (input_act p ≡ Nothing) ⊎ Packet p
-  by (inr e) f g = inl (some_fault (has_size p) (has_length (body_length (magic_in p)) p) (bad_at (magic_in p) (slice_index p 8)) _ (inl e))
-  by (inl e) (inr f) g = inl (some_fault (has_size p) (has_length (body_length (magic_in p)) p) (bad_at (magic_in p) (slice_index p 8)) _ (inr (inl f)))
+  by (inr e) f g = inl (some_fault (has_size p) (has_length (event_length (magic_in p)) p) (bad_at (magic_in p) (slice_index p 8)) _ (inl e))
+  by (inl e) (inr f) g = inl (some_fault (has_size p) (has_length (event_length (magic_in p)) p) (bad_at (magic_in p) (slice_index p 8)) _ (inr (inl f)))
   by (inl e) (inl f) (inl g) =
-      inl (some_fault (has_size p) (has_length (body_length (magic_in p)) p) (bad_at (magic_in p) (slice_index p 8)) _ (inr (inr g)))
+      inl (some_fault (has_size p) (has_length (event_length (magic_in p)) p) (bad_at (magic_in p) (slice_index p 8)) _ (inr (inr g)))
   by (inl e) (inl f) (inr g) = inr (packet_by (magic_in p) p (record { magic = refl; size = e; sized = f; good = g }))

@@ -1,6 +1,7 @@
 -- What stands at each step of a turn, by the choice that it began with.
-use Rattle.std.proofs.Common.{◌≡◌, ◌<◌, ◌≤◌, ◌+◌, ◌*◌, ◌%◌, ◌^◌, ℕ, List, [], ◌∷◌, length, map, refl, sym, ap, subst, ◌∙◌, arith}
+use Rattle.std.proofs.Common.{◌≡◌, ◌<◌, ◌≤◌, ◌+◌, ◌*◌, ◌%◌, ◌^◌, ℕ, List, ◌∷◌, length, map, sym, ap, subst, ◌∙◌, arith}
 use Rattle.std.specs.List.{All, flat_map}
+use Rattle.std.proofs.lemmas.Simd.{map-map}
 use Rattle.gs_bytes.specs.declared.addr.Addr.{Addr}
 use Rattle.gs_rtp.specs.Stream.{StreamSettings}
 use Rattle.gs_tape.specs.Tick.{Tick}
@@ -14,10 +15,6 @@ use Rattle.gs_stream.specs.Audio.{audio_stream, audio_units}
 use Rattle.gs_host_core.specs.Hosting.{Hosting, AreOfCapture, IsSendable, IsTurn, StandsOver, numbers_between}
 use Rattle.gs_host_core.specs.Puts.{LinkTold, Gains, GainsFront}
 use Rattle.gs_host_core.proofs.Turns.{last-sent, turn-few}
-
-map_of_map : {A B C : Type 0} (f : B → C) (g : A → B) (xs : List A) → map f (map g xs) ≡ map (λ x. f (g x)) xs
-map_of_map f g [] = refl
-map_of_map {A} {B} {C} f g (x ∷ xs) = ap (λ (l : List C). f (g x) ∷ l) (map_of_map f g xs)
 
 abbrev with_sent : Hosting → Sent → Hosting
 with_sent old sent = record old { history = sent_entry sent ∷ old.history }
@@ -95,7 +92,7 @@ pub is-turn : {A : Type 0} (ticks : List Tick) (h : List Entry) (n : Tick) (ts :
     → map (λ t. (val t).number) ts ≡ numbers_between h n.number → last_tick h < n.number → IsTurn ticks h n (map val ts)
 is-turn ticks h n ts val of numbers above = record {
   of_capture = of;
-  numbers = map_of_map (λ (t : Tick). t.number) val ts ∙ numbers;
+  numbers = map-map (λ (t : Tick). t.number) val ts ∙ numbers;
   above = above;
 }
 

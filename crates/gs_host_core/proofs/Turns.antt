@@ -11,6 +11,7 @@ use Rattle.std.proofs.lemmas.List.Concat.{flat_map-append}
 use Rattle.std.proofs.lemmas.List.Elements.{All-head, All-tail, All-cons, All-nil, All-push}
 use Rattle.std.proofs.lemmas.List.Folds.{flat_map-map}
 use Rattle.std.proofs.lemmas.List.FromFn.{length-range_with_len}
+use Rattle.std.proofs.lemmas.Option.{same_Some}
 use Rattle.gs_rtp.specs.Stream.{StreamSettings}
 use Rattle.gs_rtp.specs.AudioDatagrams.{audio_datagrams}
 use Rattle.gs_tape.specs.Tick.{Tick, Delta, tick_numbered}
@@ -21,7 +22,7 @@ use Rattle.gs_refs.specs.History.{frames, last_tick, tick_of, sent_as, where_it_
 use Rattle.gs_refs.specs.Choice.{choice}
 use Rattle.gs_refs.specs.Answers.{next_sent, sent_entry}
 use Rattle.gs_refs.proofs.Choices.{choice_is_sound}
-use Rattle.gs_refs.proofs.Lookups.{tick_of-before, tick_of-sent}
+use Rattle.gs_refs.proofs.Lookups.{tick_of-sent}
 use Rattle.gs_audio.specs.Sending.{Sending, HasPushed}
 use Rattle.gs_frames.specs.Datagrams.{OutgoingFrame, frame_datagrams}
 use Rattle.gs_frames.specs.ImageLaws.{IsWrittenKind}
@@ -31,6 +32,7 @@ use Rattle.gs_stream.specs.Audio.{audio_units, audio_stream}
 use Rattle.gs_host_core.specs.Units.{sent_unit_of}
 use Rattle.gs_host_core.specs.Hosting.{AreOfCapture, IsSendable, IsTurn, SendsTick, numbers_between}
 use Rattle.gs_host_core.specs.Sounds.{sound_behind}
+use Rattle.gs_bytes.proofs.Lists.{range_more}
 use Rattle.gs_host_core.proofs.Sounds.{sound-stream}
 
 -- ---- the ticks between
@@ -68,16 +70,6 @@ numbered-part ticks (t ∷ ts) a (suc m) numbers are =
     ∙ ap (λ (n : ℕ). drop (a + 1) (take n ticks)) to
     ∙ numbered-part ticks ts (a + 1) m rest (All-tail (λ x. tick_numbered ticks x.number ≡ Some x) t ts are))
 
--- one number more
-range_more : (a n : ℕ) → range_with_len a (n + 1) ≡ range_with_len a n ++ (a + n) ∷ []
-range_more a zero = let same : a ≡ a + 0 = omega arith in ap (λ (m : ℕ). m ∷ []) same
-range_more a (suc n) =
-    let more : suc n + 1 ≡ suc (n + 1) = omega arith in
-    let last : (a + 1) + n ≡ a + suc n = omega arith in
-    ap (range_with_len a) more
-    ∙ ap (λ (l : List ℕ). a ∷ l) (range_more (a + 1) n)
-    ∙ ap (λ (m : ℕ). (a ∷ range_with_len (a + 1) n) ++ m ∷ []) last
-
 -- ---- the audio of a turn
 
 abbrev pub audio_of : List Tick → List (List ℕ)
@@ -110,7 +102,7 @@ turn_ticks ticks h newest between of numbers above = elim (cases_Bool (frames h 
       map-append (λ (t : Tick). t.number) between (newest ∷ [])
       ∙ ap (λ (l : List ℕ). l ++ n ∷ []) (numbers ∙ cond-false (frames h == 0) [] (range_with_len (a + 1) m) later)
       ∙ ap (λ (k : ℕ). range_with_len (a + 1) m ++ k ∷ []) last
-      ∙ sym (range_more (a + 1) m) in
+      ∙ sym (range_more (a + 1) m (a + 1 + m) refl) in
       ap (λ (k : ℕ). drop k (take n ticks)) after
       ∙ ap (λ (k : ℕ). drop a (take k ticks)) to
       ∙ numbered-part ticks (between ++ newest ∷ []) a (m + 1) are
@@ -162,9 +154,6 @@ unit_found : (o : Option Delta) (u : List ℕ) → option_map (λ d. d.unit) o �
 unit_found None u e = cc
 unit_found (Some d) u e = cc
 
-some_unit : (x u : List ℕ) → Some x ≡ Some u → x ≡ u
-some_unit x u e = cc
-
 -- which is the one that goes out
 unit_sent : (t : Tick) (kind number : ℕ) (u : List ℕ) → IsWrittenKind kind
     → cond (kind == 2) (Some t.idr) (option_map (λ d. d.unit) (find (λ d. d.named == number) t.deltas)) ≡ Some u
@@ -176,7 +165,7 @@ unit_sent t kind number u which is =
     elim which [
       | inl one ↦ subst P (sym one) (λ e. unit_found found u e) is
       | inr more ↦ elim more [
-        | inl two ↦ subst P (sym two) (λ e. some_unit t.idr u e) is
+        | inl two ↦ subst P (sym two) (λ e. same_Some t.idr u e) is
         | inr five ↦ subst P (sym five) (λ e. unit_found found u e) is
       ]
     ]
@@ -243,16 +232,6 @@ pushed-gain sender ticks h newest ts val is p =
     (append_assoc (audio_units ticks h) (flat_map (λ t. (val t).audio) ts) newest.audio ∙ sym (units-gain ticks h newest ts val is)) p
 
 -- ---- how many units a turn has
-
-zero_tick : (h : List Entry) → tick_of h 0 ≡ 0
-zero_tick [] = refl
-zero_tick (entry.Sent tick kind reference ∷ h) = tick_of-before h tick kind reference 0 (omega arith) ∙ zero_tick h
-zero_tick (entry.Invalid first last ∷ h) = zero_tick h
-zero_tick (entry.IdrAsked ∷ h) = zero_tick h
-zero_tick (entry.Ended first last ∷ h) = zero_tick h
-
-none_last : (h : List Entry) → frames h ≡ 0 → last_tick h ≡ 0
-none_last h e = ap (tick_of h) e ∙ zero_tick h
 
 -- the last tick is that of the last frame
 pub last-sent : (h : List Entry) (s : Sent) → last_tick (sent_entry s ∷ h) ≡ s.tick

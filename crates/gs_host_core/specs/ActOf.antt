@@ -4,7 +4,7 @@ use Rattle.std.specs.Int.{w16, w64, cast_signed}
 use Rattle.gs_bytes.specs.Field.{big_from, little_from}
 use Rattle.gs_input.specs.declared.event.Event.{Event}
 use Rattle.gs_input.specs.declared.event.Event.TheVariants as event
-use Rattle.gs_input.specs.Packet.{magic_in, fault_of}
+use Rattle.gs_input.specs.Packet.{magic_in, event_fault}
 use Rattle.gs_control.specs.Message.{kind_in}
 use Rattle.gs_host_core.specs.declared.act.Act.{Act}
 use Rattle.gs_host_core.specs.declared.act.Act.TheVariants.{Invalidate, AskIdr, Input, Nothing}
@@ -17,8 +17,8 @@ abbrev pub big_at : ℕ → List ℕ → ℤ
 big_at place bytes = cast_signed w16 (big_from place 2 bytes)
 
 -- the event of an input packet without a fault, by its magic
-abbrev pub event_by : ℕ → List ℕ → Event
-event_by magic packet =
+abbrev pub acted_event : ℕ → List ℕ → Event
+acted_event magic packet =
     if magic == 3 then event.KeyDown (little_at 9 packet) (slice_index packet 11)
     else if magic == 4 then event.KeyUp (little_at 9 packet) (slice_index packet 11)
     else if magic == 5 then event.At (big_at 8 packet) (big_at 10 packet) (big_at 14 packet) (big_at 16 packet)
@@ -29,7 +29,7 @@ event_by magic packet =
     else event.Unknown magic
 
 abbrev pub input_act : List ℕ → Act
-input_act packet = if is_none (fault_of packet) then Input (event_by (magic_in packet) packet) else Nothing
+input_act packet = if is_none (event_fault packet) then Input (acted_event (magic_in packet) packet) else Nothing
 
 -- the two numbers of 64 bits of a range, behind which stands a third that is ignored
 abbrev pub range_act : List ℕ → Act

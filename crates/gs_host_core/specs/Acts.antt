@@ -65,6 +65,6 @@ answer_with act (Ok done) = Ok act
 answer_with act (Err error) = Err error
 
 -- an act was done and answered, or refused
-pub record IsTold (before now : List Entry) (act : Act) (result : Result Act ToldError) : Type 0 where
+pub record IsActTold (before now : List Entry) (act : Act) (result : Result Act ToldError) : Type 0 where
   pub answer : result ≡ answer_with act (applied_answer before act)
   pub history : now ≡ history_behind before act

@@ -28,7 +28,7 @@ pub record StandsOver (host : Hosting) (ticks : List Tick) : Type 0 where
   pub audio : HasPushed host.audio (audio_units ticks host.history)
 
 -- what a host's parts keep
-pub record IsSound (settings : StreamSettings) (history : List Entry) (audio : Sending) : Type 0 where
+pub record IsHostingSound (settings : StreamSettings) (history : List Entry) (audio : Sending) : Type 0 where
   pub packet : settings.packet ≤ most_packet
   pub same_settings : audio.settings ≡ settings
   pub few_frames : frames history ≤ last_tick history

@@ -1,7 +1,7 @@
+pub mod Errors
 pub mod Acts
 pub mod ActOf
 pub mod Units
-pub mod Errors
 pub mod Puts
 pub mod Sounds
 pub mod Hosting

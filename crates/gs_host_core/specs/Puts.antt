@@ -14,8 +14,8 @@ pub record LinkTold : Type 0 where
   pub waiting : Option (List Waiting)
 
 -- by the members that its type has
-abbrev pub told : {X : Type 0} → LinkOf X → X → LinkTold
-told members link = record { entries = members.entries link; waiting = members.waiting link }
+abbrev pub link_told : {X : Type 0} → LinkOf X → X → LinkTold
+link_told members link = record { entries = members.entries link; waiting = members.waiting link }
 
 -- these datagrams were put to an address, in order, behind what was on the list
 abbrev pub AddsPuts : Option (List LinkEntry) → Option (List LinkEntry) → Addr → List (List ℕ) → Type 0

@@ -28,7 +28,7 @@ pub struct Host {
 
 impl Model for Host {
     ghost use Rattle.gs_split.specs.Splitting.{next_count};
-    ghost use Rattle.gs_host_core.specs.Hosting.{Hosting, IsSound};
+    ghost use Rattle.gs_host_core.specs.Hosting.{Hosting, IsHostingSound};
 
     ghost Value = { Hosting };
 
@@ -39,11 +39,12 @@ impl Model for Host {
       audio = h.audio;
     } };
 
-    ghost invariant = { λ h. IsSound h.splitter.settings h.refs.history h.audio };
+    ghost invariant = { λ h. IsHostingSound h.splitter.settings h.refs.history h.audio };
 }
 
 impl Host {
-    ghost use Rattle.std.specs.Prelude.{◌+◌, ◌*◌, ◌%◌, ◌^◌, ◌≤◌, ◌<◌, ◌⊎◌, List, [], ◌∷◌, length, map, All, Err, Some, IfOk, OnOk, OnErr};
+    ghost use Rattle.std.specs.Prelude.{◌+◌, ◌*◌, ◌%◌, ◌^◌, ◌≤◌, ◌<◌, ◌⊎◌, List, [], ◌∷◌, length, map, All, Err, Some};
+    ghost use Rattle.std.specs.Prelude.{IfOk, OnOk, OnErr};
     ghost use Rattle.std.specs.Arc.{arc_value};
     ghost use Rattle.gs_rtp.specs.Limits.{most_frame};
     ghost use Rattle.gs_rtp.specs.Stream.{numbers_of};
@@ -59,12 +60,13 @@ impl Host {
     ghost use Rattle.gs_host_core.specs.declared.error.TurnError.TheVariants as turn_error;
     ghost use Rattle.gs_host_core.specs.declared.error.ToldError.TheVariants as told_error;
     ghost use Rattle.gs_host_core.specs.declared.act.Act.TheVariants as the_act;
-    ghost use Rattle.gs_host_core.specs.Acts.{IsTold, HasActButton};
+    ghost use Rattle.gs_host_core.specs.Acts.{IsActTold, HasActButton};
     ghost use Rattle.gs_host_core.specs.ActOf.{act_of};
     ghost use Rattle.gs_host_core.specs.Errors.{IsCountedTurn, turn_answer};
     ghost use Rattle.gs_refs.specs.declared.error.ChooseError.{ChooseError};
-    ghost use Rattle.gs_host_core.specs.Hosting.{AreOfCapture, IsSendable, IsTurn, SendsTick, StandsOver, numbers_between};
-    ghost use Rattle.gs_host_core.specs.Puts.{Gains, GainsFront, told};
+    ghost use Rattle.gs_host_core.specs.Hosting.{AreOfCapture, IsSendable, IsTurn, SendsTick, StandsOver};
+    ghost use Rattle.gs_host_core.specs.Hosting.{numbers_between};
+    ghost use Rattle.gs_host_core.specs.Puts.{Gains, GainsFront, link_told};
     ghost use Rattle.gs_host_core.specs.Turning.{IsSentInPart, IsSentWhole};
     ghost use Rattle.gs_audio.specs.Sending.{HasPushed};
     ghost use Rattle.gs_bytes.specs.Link.{IsCountedLink};
@@ -123,10 +125,12 @@ impl Host {
         // the history's streams gain, whole, and the host stands again; where the turn failed, a front of it.
         ensures whole { (ticks : List spec.Tick) → AreOfCapture ticks newest.now (map arc_value between.now)
             → StandsOver self.old ticks → OnOk result (IsSentWhole ticks self.old self.new video_to audio_to
-            (told L.Link video.old) (told L.Link video.new) (told L.Link audio.old) (told L.Link audio.new)) }
+            (link_told L.Link video.old) (link_told L.Link video.new) (link_told L.Link audio.old)
+            (link_told L.Link audio.new)) }
         ensures part { (ticks : List spec.Tick) → AreOfCapture ticks newest.now (map arc_value between.now)
             → StandsOver self.old ticks → OnErr result (IsSentInPart ticks self.old self.new video_to audio_to
-            (told L.Link video.old) (told L.Link video.new) (told L.Link audio.old) (told L.Link audio.new)) }
+            (link_told L.Link video.old) (link_told L.Link video.new) (link_told L.Link audio.old)
+            (link_told L.Link audio.new)) }
     {
         let sent = self.choose(newest)?;
         self.put_video(newest, &sent, video, video_to)?;
@@ -169,11 +173,11 @@ impl Host {
             → length (video_stream self.old.settings ticks (sent_entry sent.now ∷ h)) % 2 ^ 32 ≡ self.new.count }
         ensures whole { (ticks : List spec.Tick) (h : List Entry) → SendsTick ticks h newest.now sent.now
             → length (video_stream self.old.settings ticks h) % 2 ^ 32 ≡ self.old.count
-            → OnOk result (Gains (told L.Link video.old) (told L.Link video.new) to
+            → OnOk result (Gains (link_told L.Link video.old) (link_told L.Link video.new) to
             (video_stream self.old.settings ticks h) (video_stream self.old.settings ticks (sent_entry sent.now ∷ h))) }
         ensures front { (ticks : List spec.Tick) (h : List Entry) → SendsTick ticks h newest.now sent.now
             → length (video_stream self.old.settings ticks h) % 2 ^ 32 ≡ self.old.count
-            → OnErr result (GainsFront (told L.Link video.old) (told L.Link video.new) to
+            → OnErr result (GainsFront (link_told L.Link video.old) (link_told L.Link video.new) to
             (video_stream self.old.settings ticks h) (video_stream self.old.settings ticks (sent_entry sent.now ∷ h))) }
         ensures counted { IsCountedLink (L.faults video.old) (L.faults video.new) result }
     {
@@ -204,13 +208,13 @@ impl Host {
         ensures whole { (ticks : List spec.Tick) (h : List Entry)
             → IsTurn ticks h newest.now (map arc_value between.now)
             → HasPushed self.old.audio (audio_units ticks h)
-            → OnOk result (Gains (told L.Link audio.old) (told L.Link audio.new) to
+            → OnOk result (Gains (link_told L.Link audio.old) (link_told L.Link audio.new) to
             (audio_stream self.old.settings ticks h)
             (audio_stream self.old.settings ticks (sent_entry (next_sent h newest.now) ∷ h))) }
         ensures front { (ticks : List spec.Tick) (h : List Entry)
             → IsTurn ticks h newest.now (map arc_value between.now)
             → HasPushed self.old.audio (audio_units ticks h)
-            → OnErr result (GainsFront (told L.Link audio.old) (told L.Link audio.new) to
+            → OnErr result (GainsFront (link_told L.Link audio.old) (link_told L.Link audio.new) to
             (audio_stream self.old.settings ticks h)
             (audio_stream self.old.settings ticks (sent_entry (next_sent h newest.now) ∷ h))) }
         ensures counted { IsCountedLink (L.faults audio.old) (L.faults audio.new) result }
@@ -223,7 +227,7 @@ impl Host {
     /// session.
     pub fn told(&mut self, message: &[u8]) -> Result<Act, ToldError>
         // The history has the entry of the message's act, unless an allocation failed, which changes nothing.
-        ensures told { IsTold self.old.history self.new.history (act_of message.now) result
+        ensures told { IsActTold self.old.history self.new.history (act_of message.now) result
             ⊎ ((result ≡ Err told_error.OutOfMemory) × (self.new ≡ self.old)) }
         ensures act { IfOk result (λ act. (act ≡ act_of message.now) × HasActButton act) }
 
@@ -238,7 +242,7 @@ impl Host {
 
     // Does what an act asks for, and answers it.
     fn apply(&mut self, act: Act) -> Result<Act, ToldError>
-        ensures told { IsTold self.old.history self.new.history act result
+        ensures told { IsActTold self.old.history self.new.history act result
             ⊎ ((result ≡ Err told_error.OutOfMemory) × (self.new ≡ self.old)) }
         ensures same { IfOk result (λ done. done ≡ act) }
         ensures settings { self.new.settings ≡ self.old.settings }
@@ -254,7 +258,7 @@ impl Host {
 
     // Takes a range of frames as invalid.
     fn invalidate(&mut self, first: i64, last: i64) -> Result<Act, ToldError>
-        ensures told { IsTold self.old.history self.new.history (the_act.Invalidate first last) result
+        ensures told { IsActTold self.old.history self.new.history (the_act.Invalidate first last) result
             ⊎ ((result ≡ Err told_error.OutOfMemory) × (self.new ≡ self.old)) }
         ensures same { IfOk result (λ done. done ≡ the_act.Invalidate first last) }
         ensures settings { self.new.settings ≡ self.old.settings }
@@ -268,7 +272,7 @@ impl Host {
 
     // Asks that the next frame is an IDR frame.
     fn ask_idr(&mut self) -> Result<Act, ToldError>
-        ensures told { IsTold self.old.history self.new.history the_act.AskIdr result
+        ensures told { IsActTold self.old.history self.new.history the_act.AskIdr result
             ⊎ ((result ≡ Err told_error.OutOfMemory) × (self.new ≡ self.old)) }
         ensures same { IfOk result (λ done. done ≡ the_act.AskIdr) }
         ensures settings { self.new.settings ≡ self.old.settings }

@@ -5,13 +5,11 @@ ghost use Rattle.gs_bytes.specs.Link.{IsCountedLink};
 ghost use Rattle.gs_rtp.specs.Limits.{most_packet};
 ghost use Rattle.gs_frames.specs.Datagrams.{OutgoingFrame, frame_datagrams};
 ghost use Rattle.gs_split.specs.Splitting.{IsLoaded};
-ghost use Rattle.gs_host_core.specs.Puts.{PutsAll, PutsFront, told};
+ghost use Rattle.gs_host_core.specs.Puts.{PutsAll, PutsFront, link_told};
 
 use gs_bytes::{Addr, Failed, Link};
+use gs_rtp::DATAGRAM_GREATEST;
 use gs_split::Splitter;
-
-// How many bytes a datagram of either stream has at most.
-pub(crate) const DATAGRAM_GREATEST: usize = 1_456;
 
 // Puts the datagrams of the loaded frame, as many as it has.
 pub(crate) fn put_frame<L: Link>(
@@ -26,10 +24,10 @@ pub(crate) fn put_frame<L: Link>(
     requires packet { splitter.old.settings.packet ≤ most_packet }
     ensures kept { splitter.new ≡ splitter.old }
     ensures whole { (sent : OutgoingFrame) → IsLoaded splitter.old sent → sent.unit ≡ unit.now
-        → OnOk result (PutsAll (told L.Link link.old) (told L.Link link.new) to
+        → OnOk result (PutsAll (link_told L.Link link.old) (link_told L.Link link.new) to
         (frame_datagrams splitter.old.settings sent)) }
     ensures front { (sent : OutgoingFrame) → IsLoaded splitter.old sent → sent.unit ≡ unit.now
-        → OnErr result (PutsFront (told L.Link link.old) (told L.Link link.new) to
+        → OnErr result (PutsFront (link_told L.Link link.old) (link_told L.Link link.new) to
         (frame_datagrams splitter.old.settings sent)) }
     ensures counted { IsCountedLink (L.faults link.old) (L.faults link.new) result }
 {

@@ -5,12 +5,12 @@ ghost use Rattle.std.specs.List.{flat_map};
 ghost use Rattle.gs_bytes.specs.Link.{IsCountedLink};
 ghost use Rattle.gs_rtp.specs.Audio.{units_end};
 ghost use Rattle.gs_audio.specs.Sending.{HasPushed, last_datagrams};
-ghost use Rattle.gs_host_core.specs.Puts.{PutsAll, PutsFront, told};
+ghost use Rattle.gs_host_core.specs.Puts.{PutsAll, PutsFront, link_told};
 ghost use Rattle.gs_host_core.specs.Sounds.{sound_behind};
 
-use crate::put::DATAGRAM_GREATEST;
 use gs_audio::AudioSender;
 use gs_bytes::{Addr, Failed, Link};
+use gs_rtp::DATAGRAM_GREATEST;
 use gs_tape::{Tick, Unit};
 use std::sync::Arc;
 
@@ -24,11 +24,11 @@ fn put_ready<L: Link>(
     requires { ready ≡ sender.now.ready }
     ensures whole { (units : List (List ℕ)) → HasPushed sender.now units
         → length (last_datagrams sender.now.settings units) ≡ ready
-        → OnOk result (PutsAll (told L.Link link.old) (told L.Link link.new) to
+        → OnOk result (PutsAll (link_told L.Link link.old) (link_told L.Link link.new) to
         (last_datagrams sender.now.settings units)) }
     ensures front { (units : List (List ℕ)) → HasPushed sender.now units
         → length (last_datagrams sender.now.settings units) ≡ ready
-        → OnErr result (PutsFront (told L.Link link.old) (told L.Link link.new) to
+        → OnErr result (PutsFront (link_told L.Link link.old) (link_told L.Link link.new) to
         (last_datagrams sender.now.settings units)) }
     ensures counted { IsCountedLink (L.faults link.old) (L.faults link.new) result }
 {
@@ -54,10 +54,10 @@ pub(crate) fn put_units<L: Link>(
     ensures pushed { (before : List (List ℕ)) → HasPushed sender.old before
         → OnOk result (HasPushed sender.new (before ++ units.now)) }
     ensures whole { (before : List (List ℕ)) → HasPushed sender.old before
-        → OnOk result (PutsAll (told L.Link link.old) (told L.Link link.new) to
+        → OnOk result (PutsAll (link_told L.Link link.old) (link_told L.Link link.new) to
         (sound_behind sender.old.settings before units.now)) }
     ensures front { (before : List (List ℕ)) → HasPushed sender.old before
-        → OnErr result (PutsFront (told L.Link link.old) (told L.Link link.new) to
+        → OnErr result (PutsFront (link_told L.Link link.old) (link_told L.Link link.new) to
         (sound_behind sender.old.settings before units.now)) }
     ensures counted { IsCountedLink (L.faults link.old) (L.faults link.new) result }
 {
@@ -82,10 +82,10 @@ pub(crate) fn put_ticks<L: Link>(
     ensures pushed { (before : List (List ℕ)) → HasPushed sender.old before
         → OnOk result (HasPushed sender.new (before ++ flat_map (λ t. t.value.audio) ticks.now)) }
     ensures whole { (before : List (List ℕ)) → HasPushed sender.old before
-        → OnOk result (PutsAll (told L.Link link.old) (told L.Link link.new) to
+        → OnOk result (PutsAll (link_told L.Link link.old) (link_told L.Link link.new) to
         (sound_behind sender.old.settings before (flat_map (λ t. t.value.audio) ticks.now))) }
     ensures front { (before : List (List ℕ)) → HasPushed sender.old before
-        → OnErr result (PutsFront (told L.Link link.old) (told L.Link link.new) to
+        → OnErr result (PutsFront (link_told L.Link link.old) (link_told L.Link link.new) to
         (sound_behind sender.old.settings before (flat_map (λ t. t.value.audio) ticks.now))) }
     ensures counted { IsCountedLink (L.faults link.old) (L.faults link.new) result }
 {

@@ -78,28 +78,13 @@ fn turned(
     Ok((video, audio, sent))
 }
 
-// Both are the same datagram, put to the same address.
-fn is_same_put(one: &LinkEntry, other: &LinkEntry) -> bool {
-    let (
-        LinkEntry::Put { to, bytes },
-        LinkEntry::Put {
-            to: at,
-            bytes: same,
-        },
-    ) = (one, other)
-    else {
-        return false;
-    };
-    to == at && bytes.as_bytes() == same.as_bytes()
-}
-
 // What was put on one link is a front of what was put on another.
 fn is_front(part: &[LinkEntry], whole: &[LinkEntry]) -> bool {
     part.len() <= whole.len()
         && part
             .iter()
             .zip(whole.iter())
-            .all(|(one, other)| is_same_put(one, other))
+            .all(|(one, other)| one == other)
 }
 
 // The range from frame 2 to frame 2.

@@ -17,33 +17,22 @@ use Rattle.gs_host_core.specs.declared.act.Act.{Act}
 use Rattle.gs_host_core.specs.declared.act.Act.TheVariants as act
 use Rattle.gs_host_core.specs.declared.error.ToldError.{ToldError}
 use Rattle.gs_host_core.specs.declared.error.ToldError.TheVariants as told_error
-use Rattle.gs_host_core.specs.Acts.{IsTold, history_behind, range_told, ask_told, answer_with}
+use Rattle.gs_host_core.specs.Acts.{IsActTold, history_behind, range_told, ask_told, answer_with}
 use Rattle.gs_host_core.specs.ActOf.{act_of}
 use Rattle.gs_host_core.specs.Hosting.{Hosting, StandsOver}
-use Rattle.gs_host_core.proofs.Acted.{quiet}
+use Rattle.gs_host_core.proofs.Acted.{frames-quiet, last-quiet, quiet, video-quiet}
 use Rattle.gs_run.specs.Report.{Report, Acted, plain, quietly, reporting}
 use Rattle.gs_run.specs.Hearing.{acts_on, entered}
-use Rattle.gs_host_end.specs.Heard.{Hears, Keeps, done_line, line_of}
+use Rattle.gs_host_end.specs.Heard.{Hears, KeepsHosting, done_line, reported_line}
 
 -- ---- what stays as it was
-
-frames-quiet : (h : List Entry) (a : Act) → frames (history_behind h a) ≡ frames h
-frames-quiet h a = quiet frames (λ first last l. refl) (λ l. refl) (λ first last l. refl) h a
-
-last-quiet : (h : List Entry) (a : Act) → last_tick (history_behind h a) ≡ last_tick h
-last-quiet h a = quiet last_tick (λ first last l. refl) (λ l. refl) (λ first last l. refl) h a
-
-video-quiet : (s : StreamSettings) (ticks : List Tick) (h : List Entry) (a : Act)
-    → video_stream s ticks (history_behind h a) ≡ video_stream s ticks h
-unfolding video_stream
-video-quiet s ticks h a = quiet (video_stream s ticks) (λ first last l. refl) (λ l. refl) (λ first last l. refl) h a
 
 audio-quiet : (s : StreamSettings) (ticks : List Tick) (h : List Entry) (a : Act)
     → audio_stream s ticks (history_behind h a) ≡ audio_stream s ticks h
 unfolding audio_stream audio_units
 audio-quiet s ticks h a = quiet (audio_stream s ticks) (λ first last l. refl) (λ l. refl) (λ first last l. refl) h a
 
-pub keeps-same : (old : Hosting) → Keeps old old
+pub keeps-same : (old : Hosting) → KeepsHosting old old
 keeps-same old = record {
   settings = refl;
   sent = refl;
@@ -53,7 +42,7 @@ keeps-same old = record {
   stands = λ ticks h. h;
 }
 
-pub keeps-then : (old now new : Hosting) → Keeps old now → Keeps now new → Keeps old new
+pub keeps-then : (old now new : Hosting) → KeepsHosting old now → KeepsHosting now new → KeepsHosting old new
 keeps-then old now new k l = record {
   settings = l.settings ∙ k.settings;
   sent = l.sent ∙ k.sent;
@@ -65,11 +54,11 @@ keeps-then old now new k l = record {
 
 -- by what a host that was told a message says of its act
 abbrev pub Told : Hosting → Hosting → Act → Result Act ToldError → Type 0
-Told old new a result = IsTold old.history new.history a result ⊎ ((result ≡ Err told_error.OutOfMemory) × (new ≡ old))
+Told old new a result = IsActTold old.history new.history a result ⊎ ((result ≡ Err told_error.OutOfMemory) × (new ≡ old))
 
 pub keeps-told : (old new : Hosting) (a : Act) (result : Result Act ToldError) → new.settings ≡ old.settings
-    → ((ticks : List Tick) → StandsOver old ticks → StandsOver new ticks) → Told old new a result → Keeps old new
-keeps-told old new a result settings stands (inr same) = subst (λ (v : Hosting). Keeps old v) (sym same.1) (keeps-same old)
+    → ((ticks : List Tick) → StandsOver old ticks → StandsOver new ticks) → Told old new a result → KeepsHosting old new
+keeps-told old new a result settings stands (inr same) = subst (λ (v : Hosting). KeepsHosting old v) (sym same.1) (keeps-same old)
 keeps-told old new a result settings stands (inl told) = record {
   settings = settings;
   sent = ap frames told.history ∙ frames-quiet old.history a;
@@ -79,16 +68,16 @@ keeps-told old new a result settings stands (inl told) = record {
   stands = stands;
 }
 
-told-ok : (old new : Hosting) (a b : Act) → Told old new a (Ok b) → IsTold old.history new.history a (Ok b)
+told-ok : (old new : Hosting) (a b : Act) → Told old new a (Ok b) → IsActTold old.history new.history a (Ok b)
 told-ok old new a b (inl told) = told
 told-ok old new a b (inr none) = absurd (let e = none.0 in cc)
 
-told-ended : (old new : Hosting) (a : Act) → Told old new a (Err told_error.Ended) → IsTold old.history new.history a (Err told_error.Ended)
+told-ended : (old new : Hosting) (a : Act) → Told old new a (Err told_error.Ended) → IsActTold old.history new.history a (Err told_error.Ended)
 told-ended old new a (inl told) = told
 told-ended old new a (inr none) = absurd (let e = none.0 in cc)
 
 told-bad : (old new : Hosting) (a : Act) (n : ℕ) → Told old new a (Err (told_error.BadRange n))
-    → IsTold old.history new.history a (Err (told_error.BadRange n))
+    → IsActTold old.history new.history a (Err (told_error.BadRange n))
 told-bad old new a n (inl told) = told
 told-bad old new a n (inr none) = absurd (let e = none.0 in cc)
 
@@ -154,15 +143,15 @@ named sent first last = if sent then entry.Invalid (unsigned_abs first) (unsigne
 -- an entry that is named by a range, by whether it was sent
 as_named : (session : ℕ) (h now : List Entry) (first last : ℤ) (over sent wanted : Bool) (line : Option Output) → sent ≡ wanted
     → (now ≡ (if over then h else named wanted first last ∷ h)
-    → (if over then quietly h else entered session (named wanted first last) h) ≡ record { value = now; reports = line_of line })
+    → (if over then quietly h else entered session (named wanted first last) h) ≡ record { value = now; reports = reported_line line })
     → now ≡ (if over then h else named sent first last ∷ h)
-    → (if over then quietly h else entered session (named sent first last) h) ≡ record { value = now; reports = line_of line }
+    → (if over then quietly h else entered session (named sent first last) h) ≡ record { value = now; reports = reported_line line }
 as_named session h now first last over true true line e f = f
 as_named session h now first last over false false line e f = f
 as_named session h now first last over true false line e f = absurd cc
 as_named session h now first last over false true line e f = absurd cc
 
-pub done : (session channel : ℕ) (h now : List Entry) (a b : Act) → IsTold h now a (Ok b) → Done session channel a h now (done_line session channel a)
+pub done : (session channel : ℕ) (h now : List Entry) (a b : Act) → IsActTold h now a (Ok b) → Done session channel a h now (done_line session channel a)
 done session channel h now act.Nothing b t = stays (has_ended h) h now [] t.history
 done session channel h now (act.Input event) b t =
     stays (has_ended h) h now (plain (output.Input session channel event) ∷ []) t.history
@@ -176,7 +165,7 @@ done session channel h now (act.Invalidate first last) b t =
     t.history
 
 -- nothing is done in a session that has ended
-pub refused : (session channel : ℕ) (h now : List Entry) (a : Act) → IsTold h now a (Err told_error.Ended) → Done session channel a h now None
+pub refused : (session channel : ℕ) (h now : List Entry) (a : Act) → IsActTold h now a (Err told_error.Ended) → Done session channel a h now None
 refused session channel h now act.Nothing t = absurd (let e = t.answer in cc)
 refused session channel h now (act.Input event) t = absurd (let e = t.answer in cc)
 refused session channel h now act.AskIdr t =
@@ -197,7 +186,7 @@ pub record Ends (session channel : ℕ) (h now : List Entry) (a : Act) : Type 0 
   pub act_is : a ≡ act.Invalidate first last
   pub done : Done session channel a h now (Some (output.Ended session first last))
 
-pub ended : (session channel : ℕ) (h now : List Entry) (a : Act) (n : ℕ) → IsTold h now a (Err (told_error.BadRange n)) → Ends session channel h now a
+pub ended : (session channel : ℕ) (h now : List Entry) (a : Act) (n : ℕ) → IsActTold h now a (Err (told_error.BadRange n)) → Ends session channel h now a
 ended session channel h now act.Nothing n t = absurd (let e = t.answer in cc)
 ended session channel h now (act.Input event) n t = absurd (let e = t.answer in cc)
 ended session channel h now act.AskIdr n t = absurd (asked-bad (has_ended h) act.AskIdr n t.answer)

@@ -5,8 +5,8 @@ use Rattle.gs_bytes.specs.declared.addr.Addr.{Addr}
 use Rattle.gs_bytes.specs.declared.link.LinkEntry.{LinkEntry}
 use Rattle.gs_bytes.specs.declared.link.LinkEntry.TheVariants.{Put}
 use Rattle.gs_store.specs.declared.store.Store.{Store}
-use Rattle.gs_store.specs.Standing.{StandsFor}
-use Rattle.gs_host_end.specs.Boxes.{put_by, all_put}
+use Rattle.gs_store.specs.Standing.{IsStoreOf}
+use Rattle.gs_host_end.specs.Boxes.{put_bytes, all_put}
 
 pub all_put-put : (to : Addr) (ds : List (List ℕ)) → all_put (map (λ bytes. Put to bytes) ds) ≡ ds
 all_put-put to [] = refl
@@ -16,26 +16,26 @@ all_put-put to (d ∷ ds) = ap (λ (rest : List (List ℕ)). d ∷ rest) (all_pu
 pub record Stores (entries rest : List LinkEntry) (old now : Store (List ℕ)) (all : List (List ℕ)) : Type 0 where
   pub stored : List (List ℕ)
   pub parts : stored ++ all_put rest ≡ all_put entries
-  pub stands : StandsFor now (all ++ stored)
+  pub stands : IsStoreOf now (all ++ stored)
 
-pub stores-none : (entries : List LinkEntry) (store : Store (List ℕ)) (all : List (List ℕ)) → StandsFor store all
+pub stores-none : (entries : List LinkEntry) (store : Store (List ℕ)) (all : List (List ℕ)) → IsStoreOf store all
     → Stores entries entries store store all
-stores-none entries store all h = record { stored = []; parts = refl; stands = subst (StandsFor store) (sym (append-nil all)) h }
+stores-none entries store all h = record { stored = []; parts = refl; stands = subst (IsStoreOf store) (sym (append-nil all)) h }
 
 pub stores-more : (entries rest next : List LinkEntry) (e : LinkEntry) (old now new : Store (List ℕ)) (all : List (List ℕ)) → rest ≡ e ∷ next
-    → ((every : List (List ℕ)) → StandsFor now every → StandsFor new (every ++ put_by e)) → Stores entries rest old now all
+    → ((every : List (List ℕ)) → IsStoreOf now every → IsStoreOf new (every ++ put_bytes e)) → Stores entries rest old now all
     → Stores entries next old new all
 stores-more entries rest next e old now new all is put s = record {
-  stored = s.stored ++ put_by e;
-  parts = append_assoc s.stored (put_by e) (all_put next)
+  stored = s.stored ++ put_bytes e;
+  parts = append_assoc s.stored (put_bytes e) (all_put next)
       ∙ ap (λ (l : List LinkEntry). s.stored ++ all_put l) (sym is) ∙ s.parts;
-  stands = subst (StandsFor new) (append_assoc all s.stored (put_by e)) (put (all ++ s.stored) s.stands);
+  stands = subst (IsStoreOf new) (append_assoc all s.stored (put_bytes e)) (put (all ++ s.stored) s.stands);
 }
 
 pub stores-all : (entries rest : List LinkEntry) (old now : Store (List ℕ)) (all : List (List ℕ)) → rest ≡ [] → Stores entries rest old now all
-    → StandsFor now (all ++ all_put entries)
+    → IsStoreOf now (all ++ all_put entries)
 stores-all entries rest old now all is s =
-    subst (λ (l : List (List ℕ)). StandsFor now (all ++ l))
+    subst (λ (l : List (List ℕ)). IsStoreOf now (all ++ l))
     (sym (append-nil s.stored) ∙ ap (λ (l : List LinkEntry). s.stored ++ all_put l) (sym is) ∙ s.parts) s.stands
 
 -- what is put into an empty outbox is all that was put

@@ -2,8 +2,7 @@
 use Rattle.std.specs.Prelude.{if◌then◌else◌, ℤ, unsigned_abs}
 use Rattle.std.proofs.Common.{◌≡◌, ◌+◌, ℕ, Bool, true, false, List, [], ◌∷◌, ◌++◌, length, Option, Some, None, refl, sym, ap, ◌∙◌, arith}
 use Rattle.std.specs.List.{flat_map}
-use Rattle.std.proofs.lemmas.List.{append_assoc, append-nil, length-append}
-use Rattle.std.proofs.lemmas.Grind.{flat_map-append}
+use Rattle.std.proofs.lemmas.List.{length-append}
 use Rattle.gs_refs.specs.declared.entry.Entry.{Entry}
 use Rattle.gs_refs.specs.declared.entry.Entry.TheVariants as entry
 use Rattle.gs_refs.specs.History.{frames, has_ended}
@@ -12,20 +11,21 @@ use Rattle.gs_enet.specs.declared.event.PeerEvent.{PeerEvent}
 use Rattle.gs_enet.specs.declared.event.PeerEvent.TheVariants as event
 use Rattle.gs_schedule.specs.declared.output.Output.{Output}
 use Rattle.gs_schedule.specs.declared.output.Output.TheVariants as output
-use Rattle.gs_run.specs.Report.{Report, Acted, plain, quietly, report_text, text_of}
+use Rattle.gs_run.specs.Report.{Report, Acted, plain, quietly}
 use Rattle.gs_run.specs.Message.{Act, Invalidate, AskIdr, Input, Nothing, act_of}
 use Rattle.gs_run.specs.Hearing.{acts_on, entered, host_heard, all_heard}
 use Rattle.gs_run.specs.Totals.{input_in, input_of}
 use Rattle.gs_report.specs.Reporting.{Reporting, Did, with_reports}
-use Rattle.gs_host_end.specs.Heard.{Hears, line_of, inputs_in}
+use Rattle.gs_report.proofs.Reported.{with_more, with_none}
+use Rattle.gs_host_end.specs.Heard.{Hears, reported_line, inputs_in}
 
 -- ---- which lines are of inputs
 
-one_line : (o : Output) (line : Option Output) → plain o ∷ [] ≡ line_of line → inputs_in (Some o) ≡ inputs_in line
+one_line : (o : Output) (line : Option Output) → plain o ∷ [] ≡ reported_line line → inputs_in (Some o) ≡ inputs_in line
 one_line o None e = absurd cc
 one_line o (Some p) e = ap (λ (x : Output). inputs_in (Some x)) (let same : plain o ≡ plain p = cc in ap (λ (r : Report). r.output) same)
 
-no_line : (line : Option Output) → [] ≡ line_of line → 0 ≡ inputs_in line
+no_line : (line : Option Output) → [] ≡ reported_line line → 0 ≡ inputs_in line
 no_line None e = refl
 no_line (Some p) e = absurd cc
 
@@ -33,17 +33,17 @@ abbrev named : Bool → ℤ → ℤ → Entry
 named sent first last = if sent then entry.Invalid (unsigned_abs first) (unsigned_abs last) else entry.Ended first last
 
 of_entry : (session : ℕ) (over : Bool) (h : List Entry) (line : Option Output) (e : Entry) (o : Output) → 0 ≡ inputs_in (Some o)
-    → (if over then quietly h else record { value = e ∷ h; reports = plain o ∷ [] }).reports ≡ line_of line → 0 ≡ inputs_in line
+    → (if over then quietly h else record { value = e ∷ h; reports = plain o ∷ [] }).reports ≡ reported_line line → 0 ≡ inputs_in line
 of_entry session true h line e o none is = no_line line is
 of_entry session false h line e o none is = none ∙ one_line o line is
 
 of_range : (session : ℕ) (over sent : Bool) (h : List Entry) (line : Option Output) (first last : ℤ)
-    → (if over then quietly h else entered session (named sent first last) h).reports ≡ line_of line → 0 ≡ inputs_in line
+    → (if over then quietly h else entered session (named sent first last) h).reports ≡ reported_line line → 0 ≡ inputs_in line
 of_range session over true h line first last is =
     of_entry session over h line (named true first last) (output.Invalid session (unsigned_abs first) (unsigned_abs last)) refl is
 of_range session over false h line first last is = of_entry session over h line (named false first last) (output.Ended session first last) refl is
 
-of_act : (session channel : ℕ) (a : Act) (h : List Entry) (line : Option Output) → (acts_on session channel a h).reports ≡ line_of line
+of_act : (session channel : ℕ) (a : Act) (h : List Entry) (line : Option Output) → (acts_on session channel a h).reports ≡ reported_line line
     → length (input_in channel a) ≡ inputs_in line
 of_act session channel (Invalidate first last) h line is = of_range session (has_ended h) (is_range_sent (frames h) first last) h line first last is
 of_act session channel AskIdr h line is = of_entry session (has_ended h) h line entry.IdrAsked (output.Idr session) refl is
@@ -62,21 +62,12 @@ counted session event.Closed h now line is = no_line line (ap (λ (a : Acted (Li
 
 -- ---- what is reported
 
-pub with_none : (r : Reporting) → r ≡ with_reports r []
-with_none r = ap (λ (t : List ℕ). record { detail = r.detail; text = t }) (sym (append-nil r.text))
-
-pub with_more : (r : Reporting) (xs ys : List Report) → with_reports (with_reports r xs) ys ≡ with_reports r (xs ++ ys)
-with_more r xs ys =
-    ap (λ (t : List ℕ). record { detail = r.detail; text = t })
-    (append_assoc r.text (text_of r.detail xs) (text_of r.detail ys)
-    ∙ ap (λ (t : List ℕ). r.text ++ t) (sym (flat_map-append (report_text r.detail) xs ys)))
-
 -- an event of which nothing is reported, and one with a line
 pub heard-none : (session : ℕ) (e : PeerEvent) (h now : List Entry) (r : Reporting) → Hears (host_heard session e h) now None
     → Did (λ (x : List Entry). now ≡ x) (host_heard session e h) r r
 heard-none session e h now r is = record {
   stands = sym (ap (λ (a : Acted (List Entry)). a.value) is);
-  text = with_none r ∙ ap (with_reports r) (sym (ap (λ (a : Acted (List Entry)). a.reports) is));
+  text = sym (with_none r) ∙ ap (with_reports r) (sym (ap (λ (a : Acted (List Entry)). a.reports) is));
 }
 
 pub heard-some : (session : ℕ) (e : PeerEvent) (h now : List Entry) (line : Output) (r s : Reporting)
@@ -123,7 +114,7 @@ pub hears-end : (session : ℕ) (events rest : List PeerEvent) (old now : List E
 hears-end session events rest old now before after m n is h =
     let e : (all_heard session rest now).value ≡ now = ap (λ (es : List PeerEvent). (all_heard session es now).value) is in
     let f : with_reports after (all_heard session rest now).reports ≡ after =
-    ap (λ (es : List PeerEvent). with_reports after (all_heard session es now).reports) is ∙ sym (with_none after) in
+    ap (λ (es : List PeerEvent). with_reports after (all_heard session es now).reports) is ∙ with_none after in
     record { stands = sym e ∙ h.value; text = sym f ∙ h.text }
 
 pub counted-end : (session : ℕ) (events rest : List PeerEvent) (old now : List Entry) (before after : Reporting) (m n : ℕ) → rest ≡ []

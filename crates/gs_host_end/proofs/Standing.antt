@@ -18,30 +18,30 @@ use Rattle.gs_enet.specs.Steps.{can_send}
 use Rattle.gs_enet.specs.Sides.{new_side, written_out, all_told}
 use Rattle.gs_enet.specs.World.{Side, Send, acted, came}
 use Rattle.gs_store.specs.declared.store.Store.{Store}
-use Rattle.gs_store.specs.Standing.{StandsFor as IsStoreOf}
+use Rattle.gs_store.specs.Standing.{IsStoreOf}
 use Rattle.gs_store.specs.Named.{is_nameable}
 use Rattle.gs_sides.specs.declared.side.ControlSide.{ControlSide}
-use Rattle.gs_sides.specs.Outcomes.{TellsAll, Takes}
-use Rattle.gs_sides.specs.Standing.{StandsFor as IsSideOf}
+use Rattle.gs_sides.specs.Outcomes.{SideTellsAll, SideTakes}
+use Rattle.gs_sides.specs.Standing.{IsSideOf}
 use Rattle.gs_host_core.specs.Hosting.{Hosting, StandsOver}
 use Rattle.gs_run.specs.Session.{Part, video_of, audio_of}
 use Rattle.gs_run.specs.Report.{Acted}
 use Rattle.gs_run.specs.Opening.{new_part}
-use Rattle.gs_run.specs.Connection.{with_owed, settled}
+use Rattle.gs_run.specs.Connection.{with_owed, settled_part}
 use Rattle.gs_run.specs.Hearing.{all_heard, host_hears, up_taken}
 use Rattle.gs_run.specs.Totals.{input_of}
 use Rattle.gs_run.proofs.Standing.{kept_out}
 use Rattle.gs_report.specs.Reporting.{Reporting, Did, with_reports}
 use Rattle.gs_host_end.specs.declared.end.HostEnd.{HostEnd}
-use Rattle.gs_host_end.specs.Heard.{Keeps}
-use Rattle.gs_host_end.specs.Standing.{StandsFor}
+use Rattle.gs_host_end.specs.Heard.{KeepsHosting}
+use Rattle.gs_host_end.specs.Standing.{IsHostEndOf}
 
 -- ---- opening
 
 pub opens : (new : HostEnd) (session now : ℕ) (ticks : List Tick) (c : ClientSettings) (settings : StreamSettings) → c.stream ≡ settings
     → c.stream.ssrc ≡ session → new.session ≡ session → new.host.settings ≡ settings → new.host.history ≡ [] → StandsOver new.host ticks
     → new.lost ≡ false → IsSideOf new.side (new_side (accepting (session - 1) 0 session now)) → IsStoreOf new.video [] → IsStoreOf new.audio []
-    → new.inputs ≡ 0 → StandsFor new session ticks (new_part (session - 1) now c)
+    → new.inputs ≡ 0 → IsHostEndOf new session ticks (new_part (session - 1) now c)
 unfolding video_stream audio_stream audio_units
 opens new session now ticks c settings same ssrc is settings_are history over whole side video audio inputs = record {
   session_is = is;
@@ -85,9 +85,9 @@ record Settled (now : ℕ) (old new : Part) : Type 0 where
   pub owed : List Owed
   pub is : new ≡ record old { client = client; owed = owed; host = written_out now old.host }
 
-settled-is : (now : ℕ) (part : Part) → Settled now part (settled now part)
-unfolding settled
-settled-is now part =
+settled_part-is : (now : ℕ) (part : Part) → Settled now part (settled_part now part)
+unfolding settled_part
+settled_part-is now part =
     let w = with_owed-is part.owed part in
     record {
       client = written_out now w.client;
@@ -95,13 +95,13 @@ settled-is now part =
       is = ap (λ (p : Part). record p { client = written_out now p.client; host = written_out now p.host }) w.is;
     }
 
-pub settles : (old new : HostEnd) (session now : ℕ) (ticks : List Tick) (part : Part) → StandsFor old session ticks part
+pub settles : (old new : HostEnd) (session now : ℕ) (ticks : List Tick) (part : Part) → IsHostEndOf old session ticks part
     → ((x : Side) → IsSideOf old.side x → IsSideOf new.side (written_out now x)) → new.session ≡ old.session → new.host ≡ old.host
     → new.lost ≡ old.lost → new.video ≡ old.video → new.audio ≡ old.audio → new.inputs ≡ old.inputs
-    → StandsFor new session ticks (settled now part)
+    → IsHostEndOf new session ticks (settled_part now part)
 settles old new session now ticks part s written is host lost video audio inputs =
-    let w = settled-is now part in
-    subst (StandsFor new session ticks) (sym w.is) (record {
+    let w = settled_part-is now part in
+    subst (IsHostEndOf new session ticks) (sym w.is) (record {
       session_is = is ∙ s.session_is;
       settings = ap (λ (h : Hosting). h.settings) host ∙ s.settings;
       history = ap (λ (h : Hosting). h.history) host ∙ s.history;
@@ -117,12 +117,12 @@ settles old new session now ticks part s written is host lost video audio inputs
 
 -- a host whose side moved, and was told the same, hears what waits
 pub hears : (old new : HostEnd) (session : ℕ) (ticks : List Tick) (part : Part) (x : Side) (es : List PeerEvent) (before after : Reporting)
-    → StandsFor old session ticks part → x.peer.told ≡ part.host.peer.told → es ≡ x.peer.waiting
-    → IsSideOf new.side (record x { peer = all_told x.peer }) → Keeps old.host new.host
+    → IsHostEndOf old session ticks part → x.peer.told ≡ part.host.peer.told → es ≡ x.peer.waiting
+    → IsSideOf new.side (record x { peer = all_told x.peer }) → KeepsHosting old.host new.host
     → Did (λ (h : List Entry). new.host.history ≡ h) (all_heard old.session es old.host.history) before after
     → new.inputs ≡ old.inputs + length (flat_map input_of es)
     → new.session ≡ old.session → new.lost ≡ old.lost → new.video ≡ old.video → new.audio ≡ old.audio
-    → Did (StandsFor new session ticks) (host_hears session (record part { host = x })) before after
+    → Did (IsHostEndOf new session ticks) (host_hears session (record part { host = x })) before after
 hears old new session ticks part x es before after s same waits side keeps did counts is lost video audio =
     let all : Acted (List Entry) = all_heard session x.peer.waiting part.history in
     let all_is : all_heard old.session es old.host.history ≡ all =
@@ -167,13 +167,13 @@ hears-up P session now k part before after did = did
 
 -- ---- what a call of its side answered
 
-pub took-none : (b : Bool) (x y : Side) (k now : ℕ) (events : List PeerEvent) (new : ControlSide) → b ≡ false → Takes x y k now b events new
+pub took-none : (b : Bool) (x y : Side) (k now : ℕ) (events : List PeerEvent) (new : ControlSide) → b ≡ false → SideTakes x y k now b events new
     → is_nameable y.wrote k ≡ false
 took-none false x y k now events new e t = t.0
 took-none true x y k now events new e t = absurd cc
 
-pub took-one : (b : Bool) (x y : Side) (k now : ℕ) (events : List PeerEvent) (new : ControlSide) → b ≡ true → Takes x y k now b events new
-    → (is_nameable y.wrote k ≡ true) × TellsAll (came (slice_get y.wrote (k - 1)) now x) events new
+pub took-one : (b : Bool) (x y : Side) (k now : ℕ) (events : List PeerEvent) (new : ControlSide) → b ≡ true → SideTakes x y k now b events new
+    → (is_nameable y.wrote k ≡ true) × SideTellsAll (came (slice_get y.wrote (k - 1)) now x) events new
 took-one true x y k now events new e t = t
 took-one false x y k now events new e t = absurd cc
 

@@ -2,7 +2,6 @@
 use Rattle.std.specs.Prelude.{Result, Ok, Err, if◌then◌else◌, nat_lt, ◌&&◌, not, ◌==◌}
 use Rattle.std.proofs.Common.{◌≡◌, ◌≤◌, ◌+◌, ◌-◌, ℕ, Bool, true, false, List, [], ◌∷◌, ◌++◌, length, Option, Some, None, refl, sym, ap, subst, ◌∙◌, arith}
 use Rattle.std.specs.List.{All, range_with_len}
-use Rattle.std.proofs.lemmas.Bool.{cond-true, eq-eqb}
 use Rattle.std.proofs.lemmas.List.Elements.{All-nil, All-cons, All-weaker}
 use Rattle.gs_bytes.specs.Limits.{most_unit}
 use Rattle.gs_bytes.specs.declared.link.LinkEntry.{LinkEntry}
@@ -13,28 +12,29 @@ use Rattle.gs_refs.specs.declared.entry.Entry.{Entry}
 use Rattle.gs_refs.specs.declared.sent.Sent.{Sent}
 use Rattle.gs_refs.specs.declared.error.ChooseError.{ChooseError}
 use Rattle.gs_refs.specs.declared.error.ChooseError.TheVariants as choose_error
-use Rattle.gs_refs.specs.History.{frames, last_tick, has_ended, sent_as, sent_frame, tick_of, tick_or_zero}
+use Rattle.gs_refs.specs.History.{frames, last_tick, has_ended}
 use Rattle.gs_refs.specs.Answers.{next_sent, sent_entry, choose_answer}
 use Rattle.gs_refs.specs.Choice.{choice}
-use Rattle.gs_store.specs.Standing.{StandsFor as IsStoreOf}
+use Rattle.gs_store.specs.Standing.{IsStoreOf}
 use Rattle.gs_stream.specs.Video.{video_stream}
 use Rattle.gs_stream.specs.Audio.{audio_stream}
 use Rattle.gs_feed.specs.Feeding.{Feeding, IsOf}
 use Rattle.gs_sides.specs.declared.side.ControlSide.{ControlSide}
-use Rattle.gs_sides.specs.Standing.{StandsFor as IsSideOf}
+use Rattle.gs_sides.specs.Standing.{IsSideOf}
 use Rattle.gs_host_core.specs.Hosting.{IsSendable, AreOfCapture, numbers_between}
+use Rattle.gs_host_core.proofs.Turns.{last-sent}
 use Rattle.gs_run.specs.Session.{Part}
 use Rattle.gs_run.specs.Report.{Acted, Report, quietly}
 use Rattle.gs_run.specs.Scene.{Scene}
 use Rattle.gs_run.specs.Hearing.{entered}
 use Rattle.gs_run.specs.Streaming.{turn_entry, newest_sent, turned}
 use Rattle.gs_report.specs.Reporting.{Reporting, Did, with_reports}
+use Rattle.gs_report.proofs.Reported.{with_none}
 use Rattle.gs_host_end.specs.declared.end.HostEnd.{HostEnd}
 use Rattle.gs_host_end.specs.Boxes.{all_put}
 use Rattle.gs_host_end.specs.Sending.{sent_report, IsSentOver}
-use Rattle.gs_host_end.specs.Standing.{StandsFor}
+use Rattle.gs_host_end.specs.Standing.{IsHostEndOf}
 use Rattle.gs_host_end.specs.Outcomes.{IsCapturedOf, SendsNewest}
-use Rattle.gs_host_end.proofs.Listening.{with_none}
 
 -- ---- ticks that may be sent
 
@@ -125,7 +125,7 @@ turned-sent scene part newest sent is number answer next =
 pub did-quietly : {A : Type 0} (P : A → Type 0) (did : Acted A) (value : A) (r : Reporting) → did ≡ quietly value → P value → Did P did r r
 did-quietly {A} P did value r is p = record {
   stands = subst P (sym (ap (λ (a : Acted A). a.value) is)) p;
-  text = with_none r ∙ ap (with_reports r) (sym (ap (λ (a : Acted A). a.reports) is));
+  text = sym (with_none r) ∙ ap (with_reports r) (sym (ap (λ (a : Acted A). a.reports) is));
 }
 
 pub did-reporting : {A : Type 0} (P : A → Type 0) (did : Acted A) (value : A) (reports : List Report) (r s : Reporting)
@@ -140,11 +140,6 @@ pub newest-is : (feed : Feeding) (scene : Scene) (o : Option Tick) → IsCapture
     → ((ticks : List Tick) → IsOf feed ticks → o ≡ tick_numbered ticks feed.count) → tick_numbered scene.ticks scene.captured ≡ o
 newest-is feed scene o is of = ap (tick_numbered scene.ticks) (sym is.count) ∙ sym (of scene.ticks is.of)
 
-last-sent : (h : List Entry) (s : Sent) → last_tick (sent_entry s ∷ h) ≡ s.tick
-last-sent h s =
-    ap tick_or_zero (cond-true (frames h + 1 == frames h + 1) (Some (sent_as s.tick s.kind s.reference (tick_of h s.reference)))
-    (sent_frame h (frames h + 1)) (eq-eqb (frames h + 1) (frames h + 1) refl))
-
 -- what is counted once a frame was sent
 pub counts-sent : (h now : List Entry) (newest : Tick) (s : Sent) → s ≡ next_sent h newest → now ≡ sent_entry s ∷ h
     → (frames now ≡ s.frame) × (last_tick now ≡ s.tick)
@@ -154,12 +149,12 @@ counts-sent h now newest s next is = (
 )
 
 pub sends : (old new : HostEnd) (session : ℕ) (ticks : List Tick) (part : Part) (sent : Sent) (video audio : List LinkEntry)
-    → StandsFor old session ticks part → new.host.settings ≡ old.host.settings → new.host.history ≡ sent_entry sent ∷ old.host.history
+    → IsHostEndOf old session ticks part → new.host.settings ≡ old.host.settings → new.host.history ≡ sent_entry sent ∷ old.host.history
     → IsSentOver ticks old.host new.host video audio
     → ((all : List (List ℕ)) → IsStoreOf old.video all → IsStoreOf new.video (all ++ all_put video))
     → ((all : List (List ℕ)) → IsStoreOf old.audio all → IsStoreOf new.audio (all ++ all_put audio))
     → new.session ≡ old.session → new.lost ≡ old.lost → new.side ≡ old.side → new.inputs ≡ old.inputs
-    → StandsFor new session ticks (sent_part part sent)
+    → IsHostEndOf new session ticks (sent_part part sent)
 sends old new session ticks part sent video audio s settings history over stored heard is lost side inputs =
     let stream : StreamSettings = part.settings.stream in
     let now : new.host.history ≡ sent_entry sent ∷ part.history = history ∙ ap (λ (h : List Entry). sent_entry sent ∷ h) s.history in
@@ -199,19 +194,19 @@ of-capture feed scene newest between is number finds are = record {
 }
 
 abbrev Turns : HostEnd → Scene → Part → Reporting → Reporting → Type 0
-Turns new scene part before after = Did (StandsFor new scene.session scene.ticks) (turned scene part) before after
+Turns new scene part before after = Did (IsHostEndOf new scene.session scene.ticks) (turned scene part) before after
 
 pub turns-none : (end : HostEnd) (scene : Scene) (part : Part) (feed : Feeding) (o : Option Tick) (r : Reporting) → o ≡ None → Finds feed o
-    → IsCapturedOf feed scene → StandsFor end scene.session scene.ticks part → Turns end scene part r r
+    → IsCapturedOf feed scene → IsHostEndOf end scene.session scene.ticks part → Turns end scene part r r
 turns-none end scene part feed o r none finds is s =
-    did-quietly (StandsFor end scene.session scene.ticks) (turned scene part) part r
+    did-quietly (IsHostEndOf end scene.session scene.ticks) (turned scene part) part r
     (turned-none scene part (newest-is feed scene o is finds ∙ none)) s
 
 pub turns-refused : (new : HostEnd) (scene : Scene) (part : Part) (feed : Feeding) (newest : Tick) (o : Option Sent) (r : Reporting) → o ≡ None
     → Finds feed (Some newest) → newest.number ≡ feed.count → IsCapturedOf feed scene
     → SendsNewest scene.session scene.ticks newest part o new → Turns new scene part r r
 turns-refused new scene part feed newest None r none finds number is t =
-    did-quietly (StandsFor new scene.session scene.ticks) (turned scene part) part r
+    did-quietly (IsHostEndOf new scene.session scene.ticks) (turned scene part) part r
     (turned-refused scene part newest t.0.0 (newest-is feed scene (Some newest) is finds) (number ∙ is.count) t.0.1) t.1
 turns-refused new scene part feed newest (Some sent) r none finds number is t = absurd cc
 
@@ -228,7 +223,7 @@ turns-sent new scene part feed newest (Some other) sent r s some finds number re
     let same : other ≡ sent = cc in
     let next = chosen-next (has_ended part.history) (nat_lt (last_tick part.history) newest.number) (next_sent part.history newest) other
     (last_tick part.history) t.0 in
-    did-reporting (StandsFor new scene.session scene.ticks) (turned scene part) (sent_part part other) (sent_report scene.session other ∷ []) r s
+    did-reporting (IsHostEndOf new scene.session scene.ticks) (turned scene part) (sent_part part other) (sent_report scene.session other ∷ []) r s
     (turned-sent scene part newest other (newest-is feed scene (Some newest) is finds) (number ∙ is.count) t.0 next) t.1
     (reported ∙ ap (λ (x : Sent). with_reports r (sent_report new.session x ∷ [])) (sym same)
     ∙ ap (λ (n : ℕ). with_reports r (sent_report n other ∷ [])) t.1.session_is)

@@ -5,11 +5,11 @@ use Rattle.gs_bytes.specs.declared.link.LinkEntry.{LinkEntry}
 use Rattle.gs_bytes.specs.declared.link.LinkEntry.TheVariants.{Put, Took, Nothing}
 
 -- the datagram of an entry, if one was put
-abbrev pub put_by : LinkEntry → List (List ℕ)
-put_by (Put to bytes) = bytes ∷ []
-put_by (Took from bytes) = []
-put_by Nothing = []
+abbrev pub put_bytes : LinkEntry → List (List ℕ)
+put_bytes (Put to bytes) = bytes ∷ []
+put_bytes (Took from bytes) = []
+put_bytes Nothing = []
 
 -- the datagrams that were put, in order
 abbrev pub all_put : List LinkEntry → List (List ℕ)
-all_put entries = flat_map put_by entries
+all_put entries = flat_map put_bytes entries

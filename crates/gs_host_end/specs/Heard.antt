@@ -14,9 +14,9 @@ use Rattle.gs_host_core.specs.Hosting.{Hosting, StandsOver}
 use Rattle.gs_run.specs.Report.{Report, Acted, plain}
 
 -- one line, or none
-abbrev pub line_of : Option Output → List Report
-line_of None = []
-line_of (Some output) = plain output ∷ []
+abbrev pub reported_line : Option Output → List Report
+reported_line None = []
+reported_line (Some output) = plain output ∷ []
 
 -- whether the line is one of an input event, as a number
 abbrev pub inputs_in : Option Output → ℕ
@@ -33,10 +33,10 @@ done_line session channel act.Nothing = None
 
 -- the history behind it, and the line that is reported
 abbrev pub Hears : Acted (List Entry) → List Entry → Option Output → Type 0
-Hears did now output = did ≡ record { value = now; reports = line_of output }
+Hears did now output = did ≡ record { value = now; reports = reported_line output }
 
 -- what a host keeps that is told something
-pub record Keeps (old new : Hosting) : Type 0 where
+pub record KeepsHosting (old new : Hosting) : Type 0 where
   pub settings : new.settings ≡ old.settings
   pub sent : frames new.history ≡ frames old.history
   pub last : last_tick new.history ≡ last_tick old.history

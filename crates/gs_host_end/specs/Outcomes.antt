@@ -14,13 +14,13 @@ use Rattle.gs_run.specs.Report.{Acted}
 use Rattle.gs_run.specs.Hearing.{host_hears, up_taken}
 use Rattle.gs_report.specs.Reporting.{Reporting, Did}
 use Rattle.gs_host_end.specs.declared.end.HostEnd.{HostEnd}
-use Rattle.gs_host_end.specs.Standing.{StandsFor}
+use Rattle.gs_host_end.specs.Standing.{IsHostEndOf}
 
 -- the control datagram of that number of those that the client wrote is taken exactly where it can be named
 abbrev pub TakesUp : ℕ → ℕ → ℕ → List Tick → Part → Bool → HostEnd → Reporting → Reporting → Type 0
 TakesUp session now k ticks part true new before after =
     (is_nameable part.client.wrote k ≡ true)
-    × Did (StandsFor new session ticks) (up_taken session now k part) before after
+    × Did (IsHostEndOf new session ticks) (up_taken session now k part) before after
 TakesUp session now k ticks part false new before after = (is_nameable part.client.wrote k ≡ false) × (after ≡ before)
 
 -- its timers run
@@ -52,9 +52,9 @@ pub record SentNothing (old new : HostEnd) : Type 0 where
 abbrev pub SendsNewest : ℕ → List Tick → Tick → Part → Option Sent → HostEnd → Type 0
 SendsNewest session ticks newest part (Some sent) new =
     (choose_answer part.history newest ≡ Ok sent)
-    × StandsFor new session ticks (record part { history = sent_entry sent ∷ part.history })
+    × IsHostEndOf new session ticks (record part { history = sent_entry sent ∷ part.history })
 SendsNewest session ticks newest part None new =
-    ((e : ChooseError) × (choose_answer part.history newest ≡ Err e)) × StandsFor new session ticks part
+    ((e : ChooseError) × (choose_answer part.history newest ≡ Err e)) × IsHostEndOf new session ticks part
 
 -- Cited by private contracts alone: the last tick that was sent is the same, or this one.
 abbrev pub SendsUpTo : ℕ → HostEnd → HostEnd → Type 0

@@ -7,11 +7,11 @@ ghost use Rattle.gs_refs.specs.History.{frames};
 ghost use Rattle.gs_frames.specs.Client.{ClientSettings};
 ghost use Rattle.gs_store.specs.Named.{named};
 ghost use Rattle.gs_feed.specs.Feeding.{Feeding};
-ghost use Rattle.gs_sides.specs.Standing.{StandsFor as IsSideOf};
+ghost use Rattle.gs_sides.specs.Standing.{IsSideOf};
 ghost use Rattle.gs_run.specs.Session.{Part, video_of, audio_of};
 ghost use Rattle.gs_run.specs.Totals.{inputs_of};
 ghost use Rattle.gs_run.specs.Opening.{most_sessions, new_part};
-ghost use Rattle.gs_run.specs.Connection.{settled};
+ghost use Rattle.gs_run.specs.Connection.{settled_part};
 ghost use Rattle.gs_host_end.specs.Counts.{AreCounts};
 
 use gs_bytes::{OutOfMemory, Text};
@@ -45,7 +45,7 @@ pub struct HostEnd {
 }
 
 impl HostEnd {
-    ghost use Rattle.gs_host_end.specs.Standing.{StandsFor};
+    ghost use Rattle.gs_host_end.specs.Standing.{IsHostEndOf};
     ghost use Rattle.gs_host_end.specs.Outcomes.{KeepsTicks, SentNothing, tick_sent};
 
     /// The host of the session of this number, by which its stream and its connection are named. Nothing was sent, and
@@ -60,10 +60,11 @@ impl HostEnd {
         requires few { session ≤ most_sessions }
         ensures stands { IfOk result (λ end. (ticks : List spec.Tick) (c : ClientSettings)
             → c.stream ≡ numbers_of settings.now → c.stream.ssrc ≡ session
-            → StandsFor end session ticks (new_part (session - 1) now c)) }
+            → IsHostEndOf end session ticks (new_part (session - 1) now c)) }
         ensures settings { IfOk result (λ end. end.host.settings ≡ numbers_of settings.now) }
         ensures history { IfOk result (λ end. end.host.history ≡ []) }
-        ensures keeps { IfOk result (λ end. (feed : Feeding) → feed.tape.audio ≡ settings.now.audio → KeepsTicks feed end) }
+        ensures keeps { IfOk result (λ end. (feed : Feeding) → feed.tape.audio ≡ settings.now.audio
+            → KeepsTicks feed end) }
     {
         Ok(HostEnd {
             alloc,
@@ -82,7 +83,7 @@ impl HostEnd {
 
     /// Its side of the control connection.
     pub fn side(&self) -> &ControlSide
-        ensures { (session : ℕ) (ticks : List spec.Tick) (part : Part) → StandsFor self.now session ticks part
+        ensures { (session : ℕ) (ticks : List spec.Tick) (part : Part) → IsHostEndOf self.now session ticks part
             → IsSideOf result.now part.host }
     {
         &self.side
@@ -90,7 +91,7 @@ impl HostEnd {
 
     /// How many video datagrams were sent.
     pub fn video_count(&self) -> u64
-        ensures { (session : ℕ) (ticks : List spec.Tick) (part : Part) → StandsFor self.now session ticks part
+        ensures { (session : ℕ) (ticks : List spec.Tick) (part : Part) → IsHostEndOf self.now session ticks part
             → result ≡ length (video_of ticks part) }
     {
         self.video.count()
@@ -98,7 +99,7 @@ impl HostEnd {
 
     /// How many audio datagrams were sent.
     pub fn audio_count(&self) -> u64
-        ensures { (session : ℕ) (ticks : List spec.Tick) (part : Part) → StandsFor self.now session ticks part
+        ensures { (session : ℕ) (ticks : List spec.Tick) (part : Part) → IsHostEndOf self.now session ticks part
             → result ≡ length (audio_of ticks part) }
     {
         self.audio.count()
@@ -106,7 +107,7 @@ impl HostEnd {
 
     /// The video datagram of that number, from 1, where it can be named.
     pub fn video(&self, number: u64) -> Option<&[u8]>
-        ensures { (session : ℕ) (ticks : List spec.Tick) (part : Part) → StandsFor self.now session ticks part
+        ensures { (session : ℕ) (ticks : List spec.Tick) (part : Part) → IsHostEndOf self.now session ticks part
             → option_copied result ≡ named (video_of ticks part) number }
     {
         let datagram = self.video.get(number)?;
@@ -115,7 +116,7 @@ impl HostEnd {
 
     /// The audio datagram of that number, from 1, where it can be named.
     pub fn audio(&self, number: u64) -> Option<&[u8]>
-        ensures { (session : ℕ) (ticks : List spec.Tick) (part : Part) → StandsFor self.now session ticks part
+        ensures { (session : ℕ) (ticks : List spec.Tick) (part : Part) → IsHostEndOf self.now session ticks part
             → option_copied result ≡ named (audio_of ticks part) number }
     {
         let datagram = self.audio.get(number)?;
@@ -124,7 +125,7 @@ impl HostEnd {
 
     /// How many frames were sent.
     pub fn frames(&self) -> u32
-        ensures { (session : ℕ) (ticks : List spec.Tick) (part : Part) → StandsFor self.now session ticks part
+        ensures { (session : ℕ) (ticks : List spec.Tick) (part : Part) → IsHostEndOf self.now session ticks part
             → result ≡ frames part.history }
     {
         self.frames
@@ -132,7 +133,7 @@ impl HostEnd {
 
     /// How many input events were told.
     pub fn inputs(&self) -> u64
-        ensures { (session : ℕ) (ticks : List spec.Tick) (part : Part) → StandsFor self.now session ticks part
+        ensures { (session : ℕ) (ticks : List spec.Tick) (part : Part) → IsHostEndOf self.now session ticks part
             → result ≡ length (inputs_of part) }
     {
         self.inputs
@@ -153,7 +154,7 @@ impl HostEnd {
     pub fn settle(&mut self, now: u32) -> Result<(), OutOfMemory>
         ensures sent { OnOk result (SentNothing self.old self.new) }
         ensures settled { OnOk result ((session : ℕ) (ticks : List spec.Tick) (part : Part)
-            → StandsFor self.old session ticks part → StandsFor self.new session ticks (settled now part)) }
+            → IsHostEndOf self.old session ticks part → IsHostEndOf self.new session ticks (settled_part now part)) }
     {
         self.side.write_out(now)
     }

@@ -8,7 +8,7 @@ ghost use Rattle.gs_host_core.specs.ActOf.{act_of};
 ghost use Rattle.gs_run.specs.Hearing.{acts_on, host_heard, all_heard};
 ghost use Rattle.gs_run.specs.Totals.{input_of};
 ghost use Rattle.gs_report.specs.Reporting.{Did};
-ghost use Rattle.gs_host_end.specs.Heard.{Hears, Keeps, done_line, inputs_in};
+ghost use Rattle.gs_host_end.specs.Heard.{Hears, KeepsHosting, done_line, inputs_in};
 
 use gs_bytes::OutOfMemory;
 use gs_enet::PeerEvent;
@@ -74,7 +74,7 @@ fn act_on(
 ) -> Result<Option<Output>, OutOfMemory>
     ensures heard { IfOk result (λ line. Hears (acts_on session channel (act_of message.now) host.old.history)
         host.new.history line) }
-    ensures keeps { Keeps host.old host.new }
+    ensures keeps { KeepsHosting host.old host.new }
 {
     match host.told(message) {
         Ok(act) => done_line(session, channel, act),
@@ -91,7 +91,7 @@ fn heard_line(
     event: &PeerEvent,
 ) -> Result<Option<Output>, OutOfMemory>
     ensures heard { IfOk result (λ line. Hears (host_heard session event.now host.old.history) host.new.history line) }
-    ensures keeps { Keeps host.old host.new }
+    ensures keeps { KeepsHosting host.old host.new }
 {
     match event {
         PeerEvent::Message { channel, bytes, .. } => {
@@ -128,7 +128,7 @@ fn hear(
     ensures heard { OnOk result (Did (λ h. host.new.history ≡ h) (host_heard session event.now host.old.history)
         reporter.old reporter.new) }
     ensures inputs { OnOk result (inputs.new ≡ inputs.old + length (input_of event.now)) }
-    ensures keeps { Keeps host.old host.new }
+    ensures keeps { KeepsHosting host.old host.new }
 {
     let Some(line) = heard_line(session, host, event)? else {
         return Ok(());
@@ -148,7 +148,7 @@ pub fn hear_all(
     ensures heard { OnOk result (Did (λ h. host.new.history ≡ h) (all_heard session events.now host.old.history)
         reporter.old reporter.new) }
     ensures inputs { OnOk result (inputs.new ≡ inputs.old + length (flat_map input_of events.now)) }
-    ensures keeps { Keeps host.old host.new }
+    ensures keeps { KeepsHosting host.old host.new }
 {
     'events: for event in events {
         hear(session, host, event, inputs, reporter)?;

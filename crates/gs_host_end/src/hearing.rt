@@ -2,10 +2,10 @@
 
 ghost use Rattle.std.specs.Prelude.{ℕ, List, IfOk, OnOk};
 ghost use Rattle.gs_tape.specs.Tick as spec;
-ghost use Rattle.gs_sides.specs.Standing.{StandsFor as IsSideOf};
+ghost use Rattle.gs_sides.specs.Standing.{IsSideOf};
 ghost use Rattle.gs_run.specs.Session.{Part};
 ghost use Rattle.gs_report.specs.Reporting.{Did};
-ghost use Rattle.gs_host_end.specs.Standing.{StandsFor};
+ghost use Rattle.gs_host_end.specs.Standing.{IsHostEndOf};
 ghost use Rattle.gs_host_end.specs.Outcomes.{TakesUp, SentNothing, host_timed};
 
 use crate::HostEnd;
@@ -26,7 +26,7 @@ impl HostEnd {
     ) -> Result<bool, OutOfMemory>
         ensures sent { OnOk result (SentNothing self.old self.new) }
         ensures took { IfOk result (λ took. (session : ℕ) (ticks : List spec.Tick) (part : Part)
-            → StandsFor self.old session ticks part → IsSideOf client.now part.client
+            → IsHostEndOf self.old session ticks part → IsSideOf client.now part.client
             → TakesUp session now number ticks part took self.new reporter.old reporter.new) }
     {
         if !self.side.take(client, number, now, &mut self.events)? {
@@ -46,8 +46,8 @@ impl HostEnd {
     pub fn timer(&mut self, now: u32, reporter: &mut Reporter) -> Result<(), OutOfMemory>
         ensures sent { OnOk result (SentNothing self.old self.new) }
         ensures timed { OnOk result ((session : ℕ) (ticks : List spec.Tick) (part : Part)
-            → StandsFor self.old session ticks part
-            → Did (StandsFor self.new session ticks) (host_timed session now part) reporter.old reporter.new) }
+            → IsHostEndOf self.old session ticks part
+            → Did (IsHostEndOf self.new session ticks) (host_timed session now part) reporter.old reporter.new) }
     {
         self.side.timer(now, &mut self.events)?;
         hear_all(

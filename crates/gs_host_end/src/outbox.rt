@@ -1,9 +1,9 @@
 // The datagrams of a turn, until they are stored.
 
 ghost use Rattle.std.specs.Prelude.{◌≡◌, ◌++◌, [], ℕ, List, OnOk};
-ghost use Rattle.gs_store.specs.Standing.{StandsFor};
+ghost use Rattle.gs_store.specs.Standing.{IsStoreOf};
 ghost use Rattle.gs_bytes.specs.Link.{ends_with_nothing};
-ghost use Rattle.gs_host_end.specs.Boxes.{put_by, all_put};
+ghost use Rattle.gs_host_end.specs.Boxes.{put_bytes, all_put};
 
 use gs_bytes::{Addr, Arrived, Failed, Link, LinkEntry, MOST_ON_LINK, OutOfMemory, Text};
 use gs_store::Store;
@@ -29,8 +29,8 @@ impl Model for Outbox {
 
 /// Puts the datagram of an entry, if one was put, behind what a store has.
 fn store_entry(entry: LinkEntry, store: &mut Store<Text>) -> Result<(), OutOfMemory>
-    ensures { OnOk result ((all : List (List ℕ)) → StandsFor store.old all
-        → StandsFor store.new (all ++ put_by entry)) }
+    ensures { OnOk result ((all : List (List ℕ)) → IsStoreOf store.old all
+        → IsStoreOf store.new (all ++ put_bytes entry)) }
 {
     match entry {
         LinkEntry::Put { bytes, .. } => store.put(bytes),
@@ -58,8 +58,8 @@ impl Outbox {
 
     /// Moves all that was put behind what a store has. After an error a part of it may be stored.
     pub fn store(&mut self, store: &mut Store<Text>) -> Result<(), OutOfMemory>
-        ensures stored { OnOk result ((all : List (List ℕ)) → StandsFor store.old all
-            → StandsFor store.new (all ++ all_put self.old)) }
+        ensures stored { OnOk result ((all : List (List ℕ)) → IsStoreOf store.old all
+            → IsStoreOf store.new (all ++ all_put self.old)) }
         ensures emptied { OnOk result (self.new ≡ []) }
     {
         'entries: while let Some(entry) = self.entries.pop_front() {

@@ -9,7 +9,7 @@ ghost use Rattle.gs_run.specs.Scene.{Scene};
 ghost use Rattle.gs_run.specs.Streaming.{turned};
 ghost use Rattle.gs_report.specs.Reporting.{Did, with_reports};
 ghost use Rattle.gs_host_end.specs.Sending.{sent_report};
-ghost use Rattle.gs_host_end.specs.Standing.{StandsFor};
+ghost use Rattle.gs_host_end.specs.Standing.{IsHostEndOf};
 ghost use Rattle.gs_host_end.specs.Outcomes.{IsCapturedOf, KeepsTicks, SendsNewest, SendsUpTo};
 
 use crate::HostEnd;
@@ -45,8 +45,8 @@ impl HostEnd {
         ensures keeps { OnOk result (KeepsTicks feed.now self.new) }
         ensures lost { IsTrue self.old.lost → IsErr result × (self.new ≡ self.old) × (reporter.new ≡ reporter.old) }
         ensures turned { OnOk result ((scene : Scene) (part : Part) → IsCapturedOf feed.now scene
-            → StandsFor self.old scene.session scene.ticks part
-            → Did (StandsFor self.new scene.session scene.ticks) (turned scene part) reporter.old reporter.new) }
+            → IsHostEndOf self.old scene.session scene.ticks part
+            → Did (IsHostEndOf self.new scene.session scene.ticks) (turned scene part) reporter.old reporter.new) }
     {
         if self.lost {
             return Err(OutOfMemory);
@@ -75,7 +75,7 @@ impl HostEnd {
         ensures settings { self.new.host.settings ≡ self.old.host.settings }
         ensures last { OnOk result (SendsUpTo newest.now.number self.old self.new) }
         ensures sent { IfOk result (λ sent. (session : ℕ) (ticks : List spec.Tick) (part : Part)
-            → AreOfCapture ticks newest.now (map arc_value between.now) → StandsFor self.old session ticks part
+            → AreOfCapture ticks newest.now (map arc_value between.now) → IsHostEndOf self.old session ticks part
             → SendsNewest session ticks newest.now part sent self.new) }
     {
         let mut video = Outbox::new(self.alloc);

@@ -9,7 +9,7 @@ use Rattle.gs_input.specs.Event.{FitsTypes, IsKnown}
 use Rattle.gs_bytes.specs.Words.{words_of, line_of}
 use Rattle.gs_bytes.proofs.Decimals.{signed_decimal_once}
 use Rattle.gs_bytes.proofs.WordLemmas.{FitsSigned-wider, HasNoSpace, HaveNoSpace, decimal-no_space, line_of-words_of, signed_decimal-no_space, words_of-line_of}
-use Rattle.gs_input.specs.Line.{name_of, arguments_of, event_line, HasArguments, AreWords, IsLine}
+use Rattle.gs_input.specs.Line.{event_name, arguments_of, event_line, HasArguments, AreEventWords, IsLine}
 
 -- numbers of 16 bits
 short-no_space : (z : ℤ) → FitsSigned w16 z → HasNoSpace (signed_decimal z)
@@ -18,7 +18,7 @@ short-no_space z fits = signed_decimal-no_space z (FitsSigned-wider z fits)
 short_once : (y z : ℤ) → FitsSigned w16 y → FitsSigned w16 z → signed_decimal y ≡ signed_decimal z → y ≡ z
 short_once y z fy fz e = signed_decimal_once y z (FitsSigned-wider y fy) (FitsSigned-wider z fz) e
 
-name-no_space : (event : Event) → HasNoSpace (name_of event)
+name-no_space : (event : Event) → HasNoSpace (event_name event)
 name-no_space (KeyDown code modifiers) = search rules
 name-no_space (KeyUp code modifiers) = search rules
 name-no_space (Move dx dy) = search rules
@@ -40,14 +40,14 @@ arguments-no_space (Scroll amount) fits = (short-no_space amount fits, tt)
 arguments-no_space (Unknown magic) fits = (decimal-no_space magic (omega (arith, fits)), tt)
 
 -- the words of an event's line
-pub words_of-event_line : (event : Event) → FitsTypes event → words_of (event_line event) ≡ name_of event ∷ arguments_of event
-words_of-event_line event fits = words_of-line_of (name_of event) (arguments_of event) (name-no_space event) (arguments-no_space event fits)
+pub words_of-event_line : (event : Event) → FitsTypes event → words_of (event_line event) ≡ event_name event ∷ arguments_of event
+words_of-event_line event fits = words_of-line_of (event_name event) (arguments_of event) (name-no_space event) (arguments-no_space event fits)
 
 pub number_is : (m n : ℕ) → m < 2 ^ 8 → n < 2 ^ 8 → decimal m ≡ decimal n → m ≡ n
 number_is m n lm ln e = decimal_injective m n (omega arith) (omega arith) e
 
 -- a place is told by its name
-pub place_named : (name : List ℕ) (words : List (List ℕ)) (event : Event) → name ≡ codes "at" → AreWords name words event
+pub place_named : (name : List ℕ) (words : List (List ℕ)) (event : Event) → name ≡ codes "at" → AreEventWords name words event
     → (x y width height : ℤ) × HasArguments words (At x y width height)
 place_named name words (KeyDown code modifiers) e h = absurd (let f = sym e ∙ h.name_is in cc)
 place_named name words (KeyUp code modifiers) e h = absurd (let f = sym e ∙ h.name_is in cc)
@@ -59,7 +59,7 @@ place_named name words (Scroll amount) e h = absurd (let f = sym e ∙ h.name_is
 place_named name words (Unknown magic) e h = absurd (h.proper.known)
 
 -- a move is told by its name
-pub move_named : (name : List ℕ) (words : List (List ℕ)) (event : Event) → name ≡ codes "move" → AreWords name words event
+pub move_named : (name : List ℕ) (words : List (List ℕ)) (event : Event) → name ≡ codes "move" → AreEventWords name words event
     → (dx dy : ℤ) × HasArguments words (Move dx dy)
 move_named name words (KeyDown code modifiers) e h = absurd (let f = sym e ∙ h.name_is in cc)
 move_named name words (KeyUp code modifiers) e h = absurd (let f = sym e ∙ h.name_is in cc)
@@ -71,7 +71,7 @@ move_named name words (Scroll amount) e h = absurd (let f = sym e ∙ h.name_is 
 move_named name words (Unknown magic) e h = absurd (h.proper.known)
 
 -- an event is told by its words
-same_words : (first second : Event) → IsKnown first → IsKnown second → FitsTypes first → FitsTypes second → name_of first ≡ name_of second
+same_words : (first second : Event) → IsKnown first → IsKnown second → FitsTypes first → FitsTypes second → event_name first ≡ event_name second
     → arguments_of first ≡ arguments_of second → first ≡ second
 same_words (KeyDown code modifiers) (KeyDown code' modifiers') known known' fits fits' name arguments =
     let e0 : code ≡ code' = short_once code code' fits.0 fits'.0 (cc) in
@@ -118,23 +118,25 @@ same_words (Unknown magic) second known known' fits fits' name arguments = absur
 
 pub one_event : (line : List ℕ) (first second : Event) → IsLine line first → IsLine line second → first ≡ second
 one_event line first second h k =
-    let words : name_of first ∷ arguments_of first ≡ name_of second ∷ arguments_of second =
+    let words : event_name first ∷ arguments_of first ≡ event_name second ∷ arguments_of second =
     sym (words_of-event_line first h.proper.types) ∙ ap words_of (sym h.text ∙ k.text) ∙ words_of-event_line second k.proper.types in
     same_words first second h.proper.known k.proper.known h.proper.types k.proper.types (cc) (cc)
 
 -- what the words of a line are read as is what the line is read as
-pub words_are_line : (line name : List ℕ) (words : List (List ℕ)) (event : Event) → words_of line ≡ name ∷ words → AreWords name words event → IsLine line event
+pub words_are_line : (line name : List ℕ) (words : List (List ℕ)) (event : Event) → words_of line ≡ name ∷ words → AreEventWords name words event
+    → IsLine line event
 words_are_line line name words event e h =
-    let same : words_of line ≡ name_of event ∷ arguments_of event = (let n = h.name_is in let a = h.arguments_are in cc) in
+    let same : words_of line ≡ event_name event ∷ arguments_of event = (let n = h.name_is in let a = h.arguments_are in cc) in
     record { proper = h.proper; text = sym (line_of-words_of line) ∙ ap line_of same }
 
-pub line_is_words : (line name : List ℕ) (words : List (List ℕ)) (event : Event) → words_of line ≡ name ∷ words → IsLine line event → AreWords name words event
+pub line_is_words : (line name : List ℕ) (words : List (List ℕ)) (event : Event) → words_of line ≡ name ∷ words → IsLine line event
+    → AreEventWords name words event
 line_is_words line name words event e h =
-    let same : name ∷ words ≡ name_of event ∷ arguments_of event = sym e ∙ ap words_of h.text ∙ words_of-event_line event h.proper.types in
+    let same : name ∷ words ≡ event_name event ∷ arguments_of event = sym e ∙ ap words_of h.text ∙ words_of-event_line event h.proper.types in
     record { proper = h.proper; name_is = cc; arguments_are = cc }
 
 pub reads_line : (line name : List ℕ) (words : List (List ℕ)) (r : Option Event) → words_of line ≡ name ∷ words
-    → IfSome r (λ event. AreWords name words event) → IfNone r ((event : Event) → AreWords name words event → ⊥)
+    → IfSome r (λ event. AreEventWords name words event) → IfNone r ((event : Event) → AreEventWords name words event → ⊥)
     → (event : Event) → (r ≡ Some event) ↔ IsLine line event
 reads_line line name words (Some found) e some none event =
     let is = words_are_line line name words found e some in

@@ -7,15 +7,15 @@ use Rattle.gs_input.specs.Event.{FitsTypes, IsEvent}
 use Rattle.gs_bytes.specs.Words.{line_of}
 
 -- the first word
-abbrev pub name_of : Event → List ℕ
-name_of (KeyDown code modifiers) = codes "keydown"
-name_of (KeyUp code modifiers) = codes "keyup"
-name_of (Move dx dy) = codes "move"
-name_of (At x y width height) = codes "at"
-name_of (Press button) = codes "press"
-name_of (Release button) = codes "release"
-name_of (Scroll amount) = codes "scroll"
-name_of (Unknown magic) = codes "unknown"
+abbrev pub event_name : Event → List ℕ
+event_name (KeyDown code modifiers) = codes "keydown"
+event_name (KeyUp code modifiers) = codes "keyup"
+event_name (Move dx dy) = codes "move"
+event_name (At x y width height) = codes "at"
+event_name (Press button) = codes "press"
+event_name (Release button) = codes "release"
+event_name (Scroll amount) = codes "scroll"
+event_name (Unknown magic) = codes "unknown"
 
 -- the words behind it
 abbrev pub arguments_of : Event → List (List ℕ)
@@ -35,12 +35,12 @@ HasArguments words event = FitsTypes event × (words ≡ arguments_of event)
 
 -- the line of an event
 abbrev pub event_line : Event → List ℕ
-event_line event = line_of (name_of event ∷ arguments_of event)
+event_line event = line_of (event_name event ∷ arguments_of event)
 
 -- a name and the words behind it are those of an event
-pub record AreWords (name : List ℕ) (arguments : List (List ℕ)) (event : Event) : Type 0 where
+pub record AreEventWords (name : List ℕ) (arguments : List (List ℕ)) (event : Event) : Type 0 where
   pub proper : IsEvent event
-  pub name_is : name ≡ name_of event
+  pub name_is : name ≡ event_name event
   pub arguments_are : arguments ≡ arguments_of event
 
 -- a line that is read as an event

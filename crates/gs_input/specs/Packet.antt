@@ -10,11 +10,11 @@ use Rattle.gs_input.specs.Event.{HasButton}
 
 -- A field of a body: a byte, a signed number of two bytes with the lowest or the highest byte first,
 -- or bytes that are ignored when they are read, with what is written there.
-pub data Field : Type 0 where
-  byte : ℕ → Field
-  little : ℤ → Field
-  big : ℤ → Field
-  ignored : List ℕ → Field
+pub data EventField : Type 0 where
+  byte : ℕ → EventField
+  little : ℤ → EventField
+  big : ℤ → EventField
+  ignored : List ℕ → EventField
 
 -- the magic of an event
 abbrev pub magic_of : Event → ℕ
@@ -28,11 +28,11 @@ magic_of (Scroll amount) = 10
 magic_of (Unknown magic) = magic
 
 -- flags, the code, the modifiers, and two bytes of zeros
-abbrev pub key_fields : ℤ → ℕ → List Field
+abbrev pub key_fields : ℤ → ℕ → List EventField
 key_fields code modifiers = ignored (0 ∷ []) ∷ little code ∷ byte modifiers ∷ ignored (0 ∷ 0 ∷ []) ∷ []
 
 -- the fields of an event's body; that of an unknown event is any bytes
-abbrev pub fields_of : Event → List Field
+abbrev pub fields_of : Event → List EventField
 fields_of (KeyDown code modifiers) = key_fields code modifiers
 fields_of (KeyUp code modifiers) = key_fields code modifiers
 fields_of (At x y width height) = big x ∷ big y ∷ ignored (0 ∷ 0 ∷ []) ∷ big width ∷ big height ∷ []
@@ -43,8 +43,8 @@ fields_of (Scroll amount) = big amount ∷ ignored (big_bytes 2 (cast_unsigned w
 fields_of (Unknown magic) = []
 
 -- how many bytes a known magic's body has
-abbrev pub body_length : ℕ → Option ℕ
-body_length magic =
+abbrev pub event_length : ℕ → Option ℕ
+event_length magic =
     if magic == 3 || magic == 4 || magic == 10 then Some 6
     else if magic == 5 then Some 10
     else if magic == 7 then Some 4
@@ -54,21 +54,21 @@ body_length magic =
 -- ---- what is read
 
 -- how many bytes a field takes
-abbrev pub width_of : Field → ℕ
+abbrev pub width_of : EventField → ℕ
 width_of (byte value) = 1
 width_of (little value) = 2
 width_of (big value) = 2
 width_of (ignored bytes) = length bytes
 
 -- the field is what stands at the place
-abbrev pub StandsAt : ℕ → List ℕ → Field → Type 0
+abbrev pub StandsAt : ℕ → List ℕ → EventField → Type 0
 StandsAt place bytes (byte value) = slice_index bytes place ≡ value
 StandsAt place bytes (little value) = cast_signed w16 (little_from place 2 bytes) ≡ value
 StandsAt place bytes (big value) = cast_signed w16 (big_from place 2 bytes) ≡ value
 StandsAt place bytes (ignored written) = ⊤
 
 -- the fields stand one behind the other from the place to the end of the bytes
-abbrev pub StandFrom : ℕ → List ℕ → List Field → Type 0
+abbrev pub StandFrom : ℕ → List ℕ → List EventField → Type 0
 StandFrom place bytes [] = length bytes ≡ place
 StandFrom place bytes (field ∷ fields) = StandsAt place bytes field × StandFrom (place + width_of field) bytes fields
 
@@ -80,7 +80,7 @@ abbrev pub magic_in : List ℕ → ℕ
 magic_in bytes = little_from 4 4 bytes
 
 abbrev pub IsBody : List ℕ → Event → Type 0
-IsBody bytes (Unknown magic) = body_length magic ≡ None
+IsBody bytes (Unknown magic) = event_length magic ≡ None
 IsBody bytes event = StandFrom 8 bytes (fields_of event) × HasButton event
 
 -- the bytes are an input packet of the event
@@ -103,24 +103,24 @@ has_bad_button bytes =
     && not (nat_le 1 (slice_index bytes 8) && nat_le (slice_index bytes 8) 5)
 
 -- the place of what no packet has: the size, else the magic that has another length, else the button
-abbrev pub fault_of : List ℕ → Option ℕ
-fault_of bytes =
+abbrev pub event_fault : List ℕ → Option ℕ
+event_fault bytes =
     if not (has_size bytes) then Some 0
-    else if not (has_length (body_length (magic_in bytes)) bytes) then Some 4
+    else if not (has_length (event_length (magic_in bytes)) bytes) then Some 4
     else if has_bad_button bytes then Some 8
     else None
 
 -- ---- what is written
 
-abbrev pub written : Field → List ℕ
-written (byte value) = value ∷ []
-written (little value) = little_bytes 2 (cast_unsigned w16 value)
-written (big value) = big_bytes 2 (cast_unsigned w16 value)
-written (ignored bytes) = bytes
+abbrev pub written_field : EventField → List ℕ
+written_field (byte value) = value ∷ []
+written_field (little value) = little_bytes 2 (cast_unsigned w16 value)
+written_field (big value) = big_bytes 2 (cast_unsigned w16 value)
+written_field (ignored bytes) = bytes
 
-abbrev pub all_written : List Field → List ℕ
+abbrev pub all_written : List EventField → List ℕ
 all_written [] = []
-all_written (field ∷ fields) = written field ++ all_written fields
+all_written (field ∷ fields) = written_field field ++ all_written fields
 
 -- the packet around a body
 abbrev pub packet_around : ℕ → List ℕ → List ℕ

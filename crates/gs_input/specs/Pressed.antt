@@ -10,15 +10,15 @@ abbrev pub Codes : Type 0
 Codes = set.FinSet int_cmp
 
 -- the codes that are down after one more event
-abbrev pub after : Event → Codes → Codes
-after (KeyDown code modifiers) down = set.insert down code
-after (KeyUp code modifiers) down = set.remove down code
-after _ down = down
+abbrev pub codes_after : Event → Codes → Codes
+codes_after (KeyDown code modifiers) down = set.insert down code
+codes_after (KeyUp code modifiers) down = set.remove down code
+codes_after _ down = down
 
 -- the codes that are down after events, the newest first
 abbrev pub down_after : List Event → Codes
 down_after [] = set.empty
-down_after (event ∷ earlier) = after event (down_after earlier)
+down_after (event ∷ earlier) = codes_after event (down_after earlier)
 
 -- a key event of the code
 abbrev pub is_key_event : ℤ → Event → Bool

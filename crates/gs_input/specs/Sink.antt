@@ -8,15 +8,15 @@ use Rattle.gs_bytes.specs.Memory.{Calls, no_calls}
 use Rattle.gs_input.specs.declared.sink.Input.{Input}
 
 -- a list that is told is now this one
-abbrev pub Tells : Option (List Input) → List Input → Type 0
-Tells None inputs = ⊥
-Tells (Some told) inputs = told ≡ inputs
+abbrev pub TellsInputs : Option (List Input) → List Input → Type 0
+TellsInputs None inputs = ⊥
+TellsInputs (Some told) inputs = told ≡ inputs
 
 -- a put that succeeds appends the event, and one that fails appends nothing
-abbrev pub Puts : Option (List Input) → Option (List Input) → Result (Unit {0}) Failed → Input → Type 0
-Puts None now result input = ⊤
-Puts (Some before) now (Ok done) input = Tells now (before ++ input ∷ [])
-Puts (Some before) now (Err e) input = Tells now before
+abbrev pub PutsInput : Option (List Input) → Option (List Input) → Result (Unit {0}) Failed → Input → Type 0
+PutsInput None now result input = ⊤
+PutsInput (Some before) now (Ok done) input = TellsInputs now (before ++ input ∷ [])
+PutsInput (Some before) now (Err e) input = TellsInputs now before
 
 -- a put counts a fault that it answers, and nothing else
 abbrev pub IsCountedPut : ℕ → ℕ → Result (Unit {0}) Failed → Type 0

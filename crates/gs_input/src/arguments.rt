@@ -33,7 +33,8 @@ fn is_empty(mut words: Words<'_>) -> bool
 /// The code and the modifiers of a key.
 pub fn key_words(mut words: Words<'_>) -> Option<(i16, u8)>
     ensures found { IfSome result (λ key. HasArguments words.entry (Event.KeyDown key.0 key.1)) }
-    ensures none { IfNone result ((code : ℤ) (modifiers : ℕ) → HasArguments words.entry (Event.KeyDown code modifiers) → ⊥) }
+    ensures none { IfNone result ((code : ℤ) (modifiers : ℕ) → HasArguments words.entry (Event.KeyDown code modifiers)
+        → ⊥) }
 {
     let code = next_signed(&mut words)?;
     let modifiers = next_byte(&mut words)?;

@@ -74,14 +74,15 @@ pub struct BadEvent {
 
 impl Event {
     ghost use Rattle.gs_input.specs.Event.{HasButton, IsKnown};
-    ghost use Rattle.gs_input.specs.Packet.{IsPacket, fault_of, packet_of};
+    ghost use Rattle.gs_input.specs.Packet.{IsPacket, event_fault, packet_of};
 
     /// The event of an input packet, which is all of the bytes.
     pub fn read(bytes: &[u8]) -> Result<Event, BadEvent>
         // An event is read exactly where the bytes are a packet of it.
         ensures packet { (event : Event) → (result ≡ Ok event) ↔ IsPacket bytes.now event }
         // Else the place is that of the first fault.
-        ensures fault { MatchResult result (λ _. fault_of bytes.now ≡ None) (λ bad. fault_of bytes.now ≡ Some bad.place) }
+        ensures fault { MatchResult result (λ _. event_fault bytes.now ≡ None) (λ bad.
+            event_fault bytes.now ≡ Some bad.place) }
         ensures button { IfOk result (λ event. HasButton event) }
     {
         if !has_size(bytes) {

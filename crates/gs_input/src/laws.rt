@@ -1,6 +1,7 @@
 //! The laws of the grammars, each the contract of a function that does nothing.
 
-ghost use Rattle.gs_input.specs.Laws.{LastKeyEventDecides, LineHasOneEvent, LineIsRead, PacketHasOneEvent, PacketIsRead, UnknownIsNotRead};
+ghost use Rattle.gs_input.specs.Laws.{LastKeyEventDecides, LineHasOneEvent, LineIsRead, PacketHasOneEvent};
+ghost use Rattle.gs_input.specs.Laws.{PacketIsRead, UnknownIsNotRead};
 
 /// What is written for an event is a packet of that event.
 pub fn packet_is_read()

@@ -3,7 +3,7 @@
 ghost use Rattle.std.specs.Prelude.{◌≡◌, ◌↔◌, IfNone, IfOk, IfSome, Some};
 ghost use Rattle.gs_input.specs.declared.event.Event.{Event};
 ghost use Rattle.gs_input.specs.Event.{HasButton};
-ghost use Rattle.gs_input.specs.Line.{AreWords, IsLine, event_line};
+ghost use Rattle.gs_input.specs.Line.{AreEventWords, IsLine, event_line};
 
 use crate::arguments::{button_words, key_words, move_words, place_words, scroll_words};
 use crate::event::Event;
@@ -45,8 +45,8 @@ pub fn write_line(alloc: Global, event: &Event) -> Result<Text, OutOfMemory>
 
 /// The event of a name and of the words behind it, which are all that are left.
 pub fn read_arguments(name: &[u8], words: Words<'_>) -> Option<Event>
-    ensures found { IfSome result (λ event. AreWords name.now words.entry event) }
-    ensures none { IfNone result ((event : Event) → AreWords name.now words.entry event → ⊥) }
+    ensures found { IfSome result (λ event. AreEventWords name.now words.entry event) }
+    ensures none { IfNone result ((event : Event) → AreEventWords name.now words.entry event → ⊥) }
 {
     if name == b"keydown".as_slice() {
         let (code, modifiers) = key_words(words)?;

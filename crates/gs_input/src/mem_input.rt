@@ -59,13 +59,14 @@ impl InputSink for MemInput {
     ghost use Rattle.std.specs.Prelude.{◌≡◌, ◌≤◌, ◌↔◌, IsErrOf, IsTrue, Some};
     ghost use Rattle.gs_bytes.specs.Memory.{after_call, next_fails};
     ghost use Rattle.gs_input.specs.Event.{HasButton};
-    ghost use Rattle.gs_input.specs.Sink.{IsCountedPut, Puts};
+    ghost use Rattle.gs_input.specs.Sink.{IsCountedPut, PutsInput};
 
     ghost inputs = { λ sink. Some sink.inputs };
 
     fn put(&mut self, session: u32, channel: u8, event: &Event) -> Result<(), Failed>
         requires { HasButton event.now }
-        ensures inputs { Puts (Some self.old.inputs) (Some self.new.inputs) result (record { session = session; channel = channel; event = event.now }) }
+        ensures inputs { PutsInput (Some self.old.inputs) (Some self.new.inputs) result
+            (record { session = session; channel = channel; event = event.now }) }
         ensures never_falls { self.old.calls.faults ≤ self.new.calls.faults }
         ensures counted { IsCountedPut self.old.calls.faults self.new.calls.faults result }
         ensures fault { IsErrOf result Failed.Fault ↔ IsTrue (next_fails self.old.calls) }

@@ -9,7 +9,8 @@
 ghost use Rattle.std.specs.Prelude.{◌≡◌, ◌≤◌, ◌+◌, ◌++◌, IfOk, IfErr, IsTrue, drop, length, slice_index};
 ghost use Rattle.std.specs.Int.{cast_signed, w16};
 ghost use Rattle.gs_bytes.specs.Field.{big_from, little_from};
-ghost use Rattle.gs_input.specs.Packet.{IsBody, StandFrom, all_written, body_length, fields_of, has_bad_button, has_length, has_size, key_fields, magic_in, magic_of, packet_around};
+ghost use Rattle.gs_input.specs.Packet.{IsBody, StandFrom, all_written, event_length, fields_of, has_bad_button};
+ghost use Rattle.gs_input.specs.Packet.{has_length, has_size, key_fields, magic_in, magic_of, packet_around};
 
 use crate::event::{BadEvent, Event};
 use crate::limits::EVENT_ROOM;
@@ -54,7 +55,7 @@ pub fn has_size(bytes: &[u8]) -> bool
 
 /// How many bytes the body of a known magic has.
 fn body_length(magic: u32) -> Option<usize>
-    ensures { result ≡ body_length magic }
+    ensures { result ≡ event_length magic }
 {
     match magic {
         KEY_DOWN | KEY_UP => Some(KEY_LEN),
@@ -69,7 +70,7 @@ fn body_length(magic: u32) -> Option<usize>
 /// Whether the body has the length of its magic.
 pub fn has_length(magic: u32, bytes: &[u8]) -> bool
     requires { 8 ≤ length bytes.now }
-    ensures { result ≡ has_length (body_length magic) bytes.now }
+    ensures { result ≡ has_length (event_length magic) bytes.now }
 {
     match body_length(magic) {
         Some(body) => bytes.len() - BODY_AT == body,
@@ -102,7 +103,8 @@ fn read_key(bytes: &[u8]) -> (i16, u8)
 fn read_button(bytes: &[u8]) -> Result<u8, BadEvent>
     requires { length bytes.now ≡ 9 }
     ensures ok { IfOk result (λ button. (button ≡ slice_index bytes.now 8) × (1 ≤ button) × (button ≤ 5)) }
-    ensures err { IfErr result (λ bad. (bad.place ≡ 8) × ((1 ≤ slice_index bytes.now 8) → (slice_index bytes.now 8 ≤ 5) → ⊥)) }
+    ensures err { IfErr result (λ bad. (bad.place ≡ 8)
+        × ((1 ≤ slice_index bytes.now 8) → (slice_index bytes.now 8 ≤ 5) → ⊥)) }
 {
     match bytes[BODY_AT] {
         button @ 1..=5 => Ok(button),
@@ -114,7 +116,7 @@ fn read_button(bytes: &[u8]) -> Result<u8, BadEvent>
 pub fn read_body(magic: u32, bytes: &[u8]) -> Result<Event, BadEvent>
     requires size { 8 ≤ length bytes.now }
     requires magic { magic ≡ magic_in bytes.now }
-    requires body { IsTrue (has_length (body_length magic) bytes.now) }
+    requires body { IsTrue (has_length (event_length magic) bytes.now) }
     ensures ok { IfOk result (λ event. (magic ≡ magic_of event) × IsBody bytes.now event) }
     ensures err { IfErr result (λ bad. (bad.place ≡ 8) × IsTrue (has_bad_button bytes.now)) }
 {

@@ -3,7 +3,7 @@
 ghost use Rattle.std.specs.Prelude.{◌≡◌, OnErr, OnOk};
 ghost use Rattle.std.specs.FinSet as set;
 ghost use Rattle.gs_input.specs.Event.{HasButton};
-ghost use Rattle.gs_input.specs.Pressed.{after};
+ghost use Rattle.gs_input.specs.Pressed.{codes_after};
 
 use crate::event::Event;
 use gs_bytes::OutOfMemory;
@@ -42,7 +42,7 @@ impl Pressed {
     /// Goes on by one event.
     pub fn apply(&mut self, event: &Event) -> Result<(), OutOfMemory>
         requires { HasButton event.now }
-        ensures ok { OnOk result (self.new ≡ after event.now self.old) }
+        ensures ok { OnOk result (self.new ≡ codes_after event.now self.old) }
         ensures err { OnErr result (self.new ≡ self.old) }
     {
         match *event {

@@ -5,7 +5,7 @@ ghost use Rattle.std.specs.Io.KnownBytes.{Keeps};
 ghost use Rattle.gs_bytes.specs.Outside.{KeepsFlag};
 ghost use Rattle.gs_input.specs.declared.sink.Input.{Input};
 ghost use Rattle.gs_input.specs.Event.{HasButton};
-ghost use Rattle.gs_input.specs.Sink.{IsCountedPut, Puts};
+ghost use Rattle.gs_input.specs.Sink.{IsCountedPut, PutsInput};
 
 use crate::event::Event;
 use gs_bytes::{Failed, Outside};
@@ -26,7 +26,8 @@ pub trait InputSink: Outside {
     /// Appends the event to those that were put. A call that fails appends nothing.
     fn put(&mut self, session: u32, channel: u8, event: &Event) -> Result<(), Failed>
         requires { HasButton event.now }
-        ensures inputs { Puts (inputs self.old) (inputs self.new) result (record { session = session; channel = channel; event = event.now }) }
+        ensures inputs { PutsInput (inputs self.old) (inputs self.new) result
+            (record { session = session; channel = channel; event = event.now }) }
         ensures left { Keeps (Self.left self.old) (Self.left self.new) }
         ensures taken { Keeps (Self.taken self.old) (Self.taken self.new) }
         ensures end { KeepsFlag (Self.met_end self.old) (Self.met_end self.new) }

@@ -48,13 +48,14 @@ impl Outside for SureInput {
 impl InputSink for SureInput {
     ghost use Rattle.std.specs.Prelude.{IsErrOf, Some};
     ghost use Rattle.gs_input.specs.Event.{HasButton};
-    ghost use Rattle.gs_input.specs.Sink.{IsCountedPut, Puts};
+    ghost use Rattle.gs_input.specs.Sink.{IsCountedPut, PutsInput};
 
     ghost inputs = { λ sink. Some sink };
 
     fn put(&mut self, session: u32, channel: u8, event: &Event) -> Result<(), Failed>
         requires { HasButton event.now }
-        ensures inputs { Puts (Some self.old) (Some self.new) result (record { session = session; channel = channel; event = event.now }) }
+        ensures inputs { PutsInput (Some self.old) (Some self.new) result
+            (record { session = session; channel = channel; event = event.now }) }
         ensures counted { IsCountedPut 0 0 result }
         ensures no_fault { ¬ (IsErrOf result Failed.Fault) }
     {

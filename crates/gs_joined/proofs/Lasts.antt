@@ -10,7 +10,7 @@ use Rattle.gs_refs.specs.Answers.{next_sent, sent_entry}
 use Rattle.gs_host_core.specs.declared.act.Act.{Act}
 use Rattle.gs_host_core.specs.declared.error.ToldError.{ToldError}
 use Rattle.gs_host_core.specs.declared.error.ToldError.TheVariants as told_error
-use Rattle.gs_host_core.specs.Acts.{IsTold}
+use Rattle.gs_host_core.specs.Acts.{IsActTold}
 use Rattle.gs_host_core.specs.Hosting.{Hosting, numbers_between}
 use Rattle.gs_host_core.proofs.Acted.{quiet}
 use Rattle.gs_host_core.proofs.Turns.{last-sent}
@@ -32,7 +32,7 @@ last_sent h now newest s next is = ap last_tick is ∙ last-sent h s ∙ ap (λ 
 
 -- a message was told
 pub last_told : (old new : Hosting) (a : Act) (result : Result Act ToldError)
-    → IsTold old.history new.history a result ⊎ ((result ≡ Err told_error.OutOfMemory) × (new ≡ old)) → last_tick new.history ≡ last_tick old.history
+    → IsActTold old.history new.history a result ⊎ ((result ≡ Err told_error.OutOfMemory) × (new ≡ old)) → last_tick new.history ≡ last_tick old.history
 last_told old new a result (inr same) = ap (λ (v : Hosting). last_tick v.history) same.1
 last_told old new a result (inl told) =
     ap last_tick told.history ∙ quiet last_tick (λ first last l. refl) (λ l. refl) (λ first last l. refl) old.history a

@@ -13,25 +13,25 @@ use Rattle.gs_run.specs.Scene.{Scene}
 use Rattle.gs_run.specs.Report.{Acted, quietly, reporting}
 use Rattle.gs_run.specs.Message.{event_channel}
 use Rattle.gs_run.specs.Deed.{Turn, TakeVideo, TakeAudio, TakeUp, TakeDown, Give, AskIdr, Close, Reset}
-use Rattle.gs_run.specs.Hearing.{up_taken, down_taken, timed}
+use Rattle.gs_run.specs.Hearing.{up_taken, down_taken, timed_part}
 use Rattle.gs_run.specs.Streaming.{turned, with_video, with_video_if, video_taken, with_audio, with_audio_if, audio_taken, reset}
-use Rattle.gs_run.specs.Giving.{given, event_given, idr_asked, closed}
+use Rattle.gs_run.specs.Giving.{given, event_given, idr_asked, closed_part}
 use Rattle.gs_run.specs.Pump.{ends_of, marked}
 use Rattle.gs_run.specs.Refusal.{has_made_most, is_client_open, may_give, makes_ask, is_allowed}
 use Rattle.gs_report.specs.Reporting.{Reporting, Did}
+use Rattle.gs_report.proofs.Reported.{then_more, with_none}
 use Rattle.gs_client_end.specs.declared.end.ClientEnd.{ClientEnd}
-use Rattle.gs_client_end.specs.Standing.{StandsFor as IsClientEndOf}
+use Rattle.gs_client_end.specs.Standing.{IsClientEndOf}
 use Rattle.gs_client_end.specs.Outcomes.{may_take, TakesVideo, TakesDown, Gives, AsksIdr, Resets, Closes, client_timed}
 use Rattle.gs_host_end.specs.declared.end.HostEnd.{HostEnd}
-use Rattle.gs_host_end.specs.Standing.{StandsFor as IsHostEndOf}
+use Rattle.gs_host_end.specs.Standing.{IsHostEndOf}
 use Rattle.gs_host_end.specs.Outcomes.{TakesUp, host_timed}
 use Rattle.gs_loopback.specs.declared.session.Loopback.{Loopback}
 use Rattle.gs_loopback.specs.declared.marks.Marks.{Marks}
-use Rattle.gs_loopback.specs.Standing.{StandsFor, run_marks}
+use Rattle.gs_loopback.specs.Standing.{IsLoopbackOf, run_marks}
 use Rattle.gs_loopback.specs.Outcomes.{Attempts}
 use Rattle.gs_loopback.proofs.Named.{none_named, one_named}
 use Rattle.gs_loopback.proofs.Parts.{same_host, same_client}
-use Rattle.gs_loopback.proofs.Reported.{with_none, then_more}
 use Rattle.gs_loopback.proofs.Turns.{client_attempts}
 
 -- ---- messages
@@ -57,7 +57,7 @@ given_marks session channel bytes part = by (is_full part.client.peer channel) w
   by false = refl
 
 pub gives : (scene : Scene) (event : Event) (part : Part) (done : Bool) (old : Loopback) (client : ClientEnd) (before now : Reporting)
-    → StandsFor old scene.session scene.ticks part → Gives scene.session event part done client before now
+    → IsLoopbackOf old scene.session scene.ticks part → Gives scene.session event part done client before now
     → Attempts scene (Give event) part done (record old { client = client }) before now
 gives scene event part done old client before now h x =
     client_attempts scene (Give event) part (may_give (event_channel event) part) (event_given scene.session event part) done
@@ -66,7 +66,7 @@ gives scene event part done old client before now h x =
     (h.marks ∙ sym (given_marks scene.session (event_channel event) _ part)) x
 
 pub asks_idr : (scene : Scene) (part : Part) (done : Bool) (old : Loopback) (client : ClientEnd) (before now : Reporting)
-    → StandsFor old scene.session scene.ticks part → AsksIdr scene.session part done client before now
+    → IsLoopbackOf old scene.session scene.ticks part → AsksIdr scene.session part done client before now
     → Attempts scene AskIdr part done (record old { client = client }) before now
 asks_idr scene part done old client before now h x =
     client_attempts scene AskIdr part (may_give request_channel part) (idr_asked scene.session part) done
@@ -75,7 +75,7 @@ asks_idr scene part done old client before now h x =
     (h.marks ∙ sym (given_marks scene.session request_channel _ part)) x
 
 pub resets : (scene : Scene) (part : Part) (done : Bool) (old : Loopback) (client : ClientEnd) (before now : Reporting)
-    → StandsFor old scene.session scene.ticks part → Resets scene.session part done client before now
+    → IsLoopbackOf old scene.session scene.ticks part → Resets scene.session part done client before now
     → Attempts scene Reset part done (record old { client = client }) before now
 unfolding reset
 resets scene part done old client before now h x =
@@ -85,11 +85,11 @@ resets scene part done old client before now h x =
     (same_host old.host scene.session scene.ticks part v.came v.sound v.client v.owed v.marks h.host) h.marks x
 
 pub closes : (scene : Scene) (part : Part) (done : Bool) (old : Loopback) (client : ClientEnd) (before : Reporting)
-    → StandsFor old scene.session scene.ticks part → Closes scene.session part done client
+    → IsLoopbackOf old scene.session scene.ticks part → Closes scene.session part done client
     → Attempts scene Close part done (record old { client = client }) before before
-unfolding closed
+unfolding closed_part
 closes scene part true old client before h x =
-    let v : Part = (closed part).value in (
+    let v : Part = (closed_part part).value in (
       x.0,
       record {
         stands = record {
@@ -119,7 +119,7 @@ pub no_audio : (scene : Scene) (k : ℕ) (part : Part) (new : Loopback) (now : R
 no_audio scene k part new now e = (none_named (audio_of scene.ticks part) k e, refl)
 
 pub takes_video : (scene : Scene) (k : ℕ) (bytes : List ℕ) (part : Part) (done : Bool) (old : Loopback) (client : ClientEnd)
-    (before now : Reporting) → StandsFor old scene.session scene.ticks part
+    (before now : Reporting) → IsLoopbackOf old scene.session scene.ticks part
     → named (video_of scene.ticks part) k ≡ Some bytes → TakesVideo scene.session part bytes done client before now
     → Attempts scene (TakeVideo k) part done (record old { client = client }) before now
 unfolding video_taken
@@ -136,7 +136,7 @@ takes_video scene k bytes part done old client before now h e x =
     (same_host old.host scene.session scene.ticks part v.came v.sound v.client v.owed v.marks h.host) h.marks x
 
 pub takes_audio : (scene : Scene) (k : ℕ) (bytes : List ℕ) (part : Part) (old : Loopback) (client : ClientEnd)
-    (before now : Reporting) → StandsFor old scene.session scene.ticks part
+    (before now : Reporting) → IsLoopbackOf old scene.session scene.ticks part
     → named (audio_of scene.ticks part) k ≡ Some bytes
     → Did (IsClientEndOf client scene.session) (with_audio scene.session bytes part) before now
     → Attempts scene (TakeAudio k) part true (record old { client = client }) before now
@@ -150,7 +150,7 @@ takes_audio scene k bytes part old client before now h e x =
     (same_host old.host scene.session scene.ticks part v.came v.sound v.client v.owed v.marks h.host) h.marks (one.0, x)
 
 pub takes_down : (scene : Scene) (now k : ℕ) (part : Part) (done : Bool) (old : Loopback) (client : ClientEnd) (before after : Reporting)
-    → scene.moment ≡ now → StandsFor old scene.session scene.ticks part
+    → scene.moment ≡ now → IsLoopbackOf old scene.session scene.ticks part
     → TakesDown scene.session now k part done client before after
     → Attempts scene (TakeDown k) part done (record old { client = client }) before after
 unfolding down_taken
@@ -161,14 +161,14 @@ takes_down scene now k part done old client before after at h x =
     (same_host old.host scene.session scene.ticks part v.came v.sound v.client v.owed v.marks h.host) h.marks x
 
 pub takes_up : (scene : Scene) (now k : ℕ) (part : Part) (done : Bool) (old : Loopback) (host : HostEnd) (before after : Reporting)
-    → scene.moment ≡ now → StandsFor old scene.session scene.ticks part
+    → scene.moment ≡ now → IsLoopbackOf old scene.session scene.ticks part
     → TakesUp scene.session now k scene.ticks part done host before after
     → Attempts scene (TakeUp k) part done (record old { host = host }) before after
 unfolding up_taken
 takes_up scene now k part true old host before after at h x =
     let v : Part = (up_taken scene.session now k part).value in (
       x.0,
-      subst (λ (m : ℕ). Did (StandsFor (record old { host = host }) scene.session scene.ticks) (up_taken scene.session m k part) before after)
+      subst (λ (m : ℕ). Did (IsLoopbackOf (record old { host = host }) scene.session scene.ticks) (up_taken scene.session m k part) before after)
           (sym at) (record {
             stands = record {
               host = x.1.stands;
@@ -183,7 +183,7 @@ takes_up scene now k part false old host before after at h x = x
 -- ---- the host's turn, and time
 
 pub turns : (scene : Scene) (part : Part) (old : Loopback) (host : HostEnd) (before now : Reporting)
-    → StandsFor old scene.session scene.ticks part
+    → IsLoopbackOf old scene.session scene.ticks part
     → Did (IsHostEndOf host scene.session scene.ticks) (turned scene part) before now
     → Attempts scene Turn part true (record old { host = host }) before now
 unfolding turned
@@ -202,17 +202,17 @@ turns scene part old host before now h x =
 
 -- the client's timers ran, and so does the host stand for what they left
 pub client_times : (session : ℕ) (ticks : List Tick) (now : ℕ) (part : Part) (old : Loopback)
-    → StandsFor old session ticks part → IsHostEndOf old.host session ticks (client_timed session now part).value
+    → IsLoopbackOf old session ticks part → IsHostEndOf old.host session ticks (client_timed session now part).value
 client_times session ticks now part old h =
     let v : Part = (client_timed session now part).value in
     same_host old.host session ticks part v.came v.sound v.client v.owed v.marks h.host
 
 pub times : (session : ℕ) (ticks : List Tick) (now : ℕ) (part : Part) (old : Loopback) (client : ClientEnd) (host : HostEnd)
-    (before mid after : Reporting) → StandsFor old session ticks part
+    (before mid after : Reporting) → IsLoopbackOf old session ticks part
     → Did (IsClientEndOf client session) (client_timed session now part) before mid
     → Did (IsHostEndOf host session ticks) (host_timed session now (client_timed session now part).value) mid after
-    → Did (StandsFor (record old { client = client; host = host }) session ticks) (timed session now part) before after
-unfolding timed
+    → Did (IsLoopbackOf (record old { client = client; host = host }) session ticks) (timed_part session now part) before after
+unfolding timed_part
 times session ticks now part old client host before mid after h x y =
     let u : Part = (client_timed session now part).value in
     let v : Part = (host_timed session now u).value in
@@ -226,9 +226,9 @@ times session ticks now part old client host before mid after h x y =
     }
 
 -- the marks move to the end
-pub marks_move : (scene : Scene) (part : Part) (old : Loopback) (marks : Marks) → StandsFor old scene.session scene.ticks part
+pub marks_move : (scene : Scene) (part : Part) (old : Loopback) (marks : Marks) → IsLoopbackOf old scene.session scene.ticks part
     → run_marks marks ≡ ends_of scene part
-    → StandsFor (record old { marks = marks }) scene.session scene.ticks (marked scene part)
+    → IsLoopbackOf (record old { marks = marks }) scene.session scene.ticks (marked scene part)
 unfolding marked
 marks_move scene part old marks h e =
     let v : Part = marked scene part in

@@ -1,5 +1,4 @@
 pub mod Numbers
-pub mod Reported
 pub mod Parts
 pub mod Named
 pub mod Turns

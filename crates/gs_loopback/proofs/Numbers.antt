@@ -6,7 +6,7 @@ use Rattle.std.specs.List.{find, range_with_len}
 use Rattle.std.proofs.Math.Nat.{mod-one, mod-add-mod, mod-eq_of_lt}
 use Rattle.std.proofs.lemmas.Bool.{or_parts, eqb-true, ltb-true, ltb-false}
 use Rattle.std.specs.Option.{option_map}
-use Rattle.gs_run.specs.Session.{Marks}
+use Rattle.gs_run.specs.Session.{PartMarks}
 use Rattle.gs_run.specs.Deed.{SessionDeed, TakeVideo, TakeAudio, Mark}
 use Rattle.gs_run.specs.Pump.{Pumping, is_kept, next_kept, next_above, or_else, next_control, next_pumped}
 use Rattle.gs_loopback.specs.declared.delivery.Delivery.{Delivery}
@@ -103,7 +103,7 @@ deed_is : (o : Option Delivery) → pumped_deed o ≡ unwrap_or (option_map run_
 deed_is None = refl
 deed_is (Some delivery) = refl
 
-pub next_is : (every : ℕ) (pumping : Pumping) (ends : Marks) (o : Option Delivery) → next_kept every pumping.at.video ends.video ≡ None
+pub next_is : (every : ℕ) (pumping : Pumping) (ends : PartMarks) (o : Option Delivery) → next_kept every pumping.at.video ends.video ≡ None
     → next_kept every pumping.at.audio ends.audio ≡ None → option_map run_delivery o ≡ next_control pumping ends
     → pumped_deed o ≡ next_pumped every pumping ends
 next_is every pumping ends o video audio control =

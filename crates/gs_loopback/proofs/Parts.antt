@@ -13,17 +13,17 @@ use Rattle.gs_run.specs.Session as run
 use Rattle.gs_run.specs.Session.{Part, video_of, audio_of}
 use Rattle.gs_run.specs.Scene.{Scene}
 use Rattle.gs_run.specs.Pump.{ends_of}
-use Rattle.gs_run.specs.Connection.{with_owed, settled}
+use Rattle.gs_run.specs.Connection.{with_owed, settled_part}
 use Rattle.gs_client_end.specs.declared.end.ClientEnd.{ClientEnd}
-use Rattle.gs_client_end.specs.Standing.{StandsFor as IsClientEndOf}
+use Rattle.gs_client_end.specs.Standing.{IsClientEndOf}
 use Rattle.gs_host_end.specs.declared.end.HostEnd.{HostEnd}
 use Rattle.gs_host_end.specs.Outcomes.{KeepsTicks, SentNothing}
-use Rattle.gs_host_end.specs.Standing.{StandsFor as IsHostEndOf}
+use Rattle.gs_host_end.specs.Standing.{IsHostEndOf}
 use Rattle.gs_loopback.specs.Standing.{run_marks}
 
 -- a host's end knows nothing of the client, and the client's end nothing of the host
 pub same_host : (end : HostEnd) (session : ℕ) (ticks : List Tick) (part : Part) (came : List Arrival) (sound : List (List ℕ))
-    (client : Side) (owed : List Owed) (marks : run.Marks) → IsHostEndOf end session ticks part
+    (client : Side) (owed : List Owed) (marks : run.PartMarks) → IsHostEndOf end session ticks part
     → IsHostEndOf end session ticks (record part { came = came; sound = sound; client = client; owed = owed; marks = marks })
 same_host end session ticks part came sound client owed marks h = record {
   session_is = h.session_is;
@@ -37,7 +37,7 @@ same_host end session ticks part came sound client owed marks h = record {
   inputs = h.inputs;
 }
 
-pub same_client : (end : ClientEnd) (session : ℕ) (part : Part) (history : List Entry) (host : Side) (marks : run.Marks)
+pub same_client : (end : ClientEnd) (session : ℕ) (part : Part) (history : List Entry) (host : Side) (marks : run.PartMarks)
     → IsClientEndOf end session part
     → IsClientEndOf end session (record part { history = history; host = host; marks = marks })
 same_client end session part history host marks h = record {
@@ -76,8 +76,8 @@ owed_marks (first ∷ rest) part = by (can_send part.client.peer request_channel
   by true behind = behind
   by false behind = refl
 
-pub settled_marks : (now : ℕ) (part : Part) → (settled now part).marks ≡ part.marks
-unfolding settled
+pub settled_marks : (now : ℕ) (part : Part) → (settled_part now part).marks ≡ part.marks
+unfolding settled_part
 settled_marks now part = owed_marks part.owed part
 
 -- how many datagrams there are of each kind
@@ -85,7 +85,7 @@ pub ends_are : (video audio up down : ℕ) (scene : Scene) (part : Part) → vid
     → audio ≡ length (audio_of scene.ticks part) → up ≡ length part.client.wrote → down ≡ length part.host.wrote
     → run_marks (record { video = video; audio = audio; up = up; down = down }) ≡ ends_of scene part
 ends_are video audio up down scene part a b c d =
-    let ends : run.Marks = ends_of scene part in
+    let ends : run.PartMarks = ends_of scene part in
     ap (λ (n : ℕ). run_marks (record { video = n; audio = audio; up = up; down = down })) a
     ∙ ap (λ (n : ℕ). run_marks (record { video = ends.video; audio = n; up = up; down = down })) b
     ∙ ap (λ (n : ℕ). run_marks (record { video = ends.video; audio = ends.audio; up = n; down = down })) c

@@ -10,13 +10,13 @@ use Rattle.gs_run.specs.Refusal.{is_allowed}
 use Rattle.gs_run.specs.Done.{settled_in}
 use Rattle.gs_run.specs.Pump.{Pumping, ends_of, next_pumped, moved}
 use Rattle.gs_report.specs.Reporting.{Reporting, Did, with_reports}
+use Rattle.gs_report.proofs.Reported.{then_more, with_none}
 use Rattle.gs_loopback.specs.declared.delivery.Delivery.{Delivery}
 use Rattle.gs_loopback.specs.declared.delivery.Delivery.TheVariants as delivery
 use Rattle.gs_loopback.specs.declared.session.Loopback.{Loopback}
-use Rattle.gs_loopback.specs.Standing.{StandsFor}
+use Rattle.gs_loopback.specs.Standing.{IsLoopbackOf}
 use Rattle.gs_loopback.specs.Running.{run_delivery, RanIn, ran_in, EndsPump, ArePumped, pump_start}
-use Rattle.gs_loopback.specs.Outcomes.{Ran, RanAll, Pumped}
-use Rattle.gs_loopback.proofs.Reported.{with_none, then_more}
+use Rattle.gs_loopback.specs.Outcomes.{RanScene, RanAll, Pumped}
 use Rattle.gs_loopback.proofs.Turns.{ran_on, one_allowed, one_stands}
 
 -- these reports, and then what deeds came to
@@ -34,13 +34,13 @@ pub record PumpSoFar (scene : Scene) (every : ℕ) (first : Part) (pumping : Pum
     : Type 0 where
   pub part : Part
   pub reports : List Report
-  pub stands : StandsFor new scene.session scene.ticks part
+  pub stands : IsLoopbackOf new scene.session scene.ticks part
   pub text : now ≡ with_reports before reports
   pub goes_on : (deeds : List SessionDeed) → ArePumped scene every pumping part deeds
       → FromStart scene every first (behind reports (ran_in scene deeds part))
 
 pub pump_begins : (scene : Scene) (every : ℕ) (first : Part) (pumping : Pumping) (before : Reporting) (new : Loopback)
-    → pumping ≡ pump_start first → StandsFor new scene.session scene.ticks first
+    → pumping ≡ pump_start first → IsLoopbackOf new scene.session scene.ticks first
     → PumpSoFar scene every first pumping before new before
 pump_begins scene every first pumping before new e stands = record {
   part = first;
@@ -101,7 +101,7 @@ pump_moves scene every first pumping next before mid new now after far d is move
     let deed : SessionDeed = run_delivery d in
     let did : Acted Part = settled_in scene deed far.part in
     let holds : is_allowed scene deed far.part ≡ true = one_allowed scene deed far.part true new now after ran in
-    let done : Did (StandsFor new scene.session scene.ticks) did now after = one_stands scene deed far.part new now after ran in
+    let done : Did (IsLoopbackOf new scene.session scene.ticks) did now after = one_stands scene deed far.part new now after ran in
     record {
       part = did.value;
       reports = far.reports ++ did.reports;
@@ -129,7 +129,7 @@ ends_with : (scene : Scene) (every : ℕ) (first : Part) (before now after : Rep
     → Pumped scene every first done new before after
 ends_with scene every first before now after done new reports deed part text from ran =
     let last : RanIn = ran_in scene (deed ∷ []) part in
-    let whole : Ran scene (behind reports last) done new before after = record {
+    let whole : RanScene scene (behind reports last) done new before after = record {
       done_is = ran.done_is;
       stands = ran.stands;
       text = then_more before now after reports last.reports text ran.text;
@@ -137,7 +137,7 @@ ends_with scene every first before now after done new reports deed part text fro
     record {
       deeds = from.deeds;
       are_pumped = from.are;
-      ran = subst (λ (r : RanIn). Ran scene r done new before after) (sym from.ran_is) whole;
+      ran = subst (λ (r : RanIn). RanScene scene r done new before after) (sym from.ran_is) whole;
     }
 
 pub pump_ends : (scene : Scene) (every : ℕ) (first : Part) (pumping : Pumping) (before : Reporting) (mid new : Loopback) (now after : Reporting)

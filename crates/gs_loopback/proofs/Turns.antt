@@ -7,17 +7,17 @@ use Rattle.gs_run.specs.Session.{Part}
 use Rattle.gs_run.specs.Scene.{Scene}
 use Rattle.gs_run.specs.Report.{Report, Acted}
 use Rattle.gs_run.specs.Deed.{SessionDeed, Close}
-use Rattle.gs_run.specs.Connection.{settled}
+use Rattle.gs_run.specs.Connection.{settled_part}
 use Rattle.gs_run.specs.Refusal.{is_allowed}
 use Rattle.gs_run.specs.Done.{done_in, settled_in}
 use Rattle.gs_report.specs.Reporting.{Reporting, Did, with_reports}
+use Rattle.gs_report.proofs.Reported.{with_none}
 use Rattle.gs_client_end.specs.Outcomes.{DoneIf}
-use Rattle.gs_host_end.specs.Standing.{StandsFor as IsHostEndOf}
+use Rattle.gs_host_end.specs.Standing.{IsHostEndOf}
 use Rattle.gs_loopback.specs.declared.session.Loopback.{Loopback}
-use Rattle.gs_loopback.specs.Standing.{StandsFor, run_marks}
+use Rattle.gs_loopback.specs.Standing.{IsLoopbackOf, run_marks}
 use Rattle.gs_loopback.specs.Running.{RanIn, then_ran_in, ran_in}
-use Rattle.gs_loopback.specs.Outcomes.{Ran, RanAll, Attempts}
-use Rattle.gs_loopback.proofs.Reported.{with_none}
+use Rattle.gs_loopback.specs.Outcomes.{RanScene, RanAll, Attempts}
 
 -- ---- what deeds come to
 
@@ -46,7 +46,7 @@ ran_none scene part = refl
 -- one deed that was done
 abbrev pub ran_one : Scene → SessionDeed → Part → RanIn
 ran_one scene deed part = record {
-  part = settled scene.moment (done_in scene deed part).value;
+  part = settled_part scene.moment (done_in scene deed part).value;
   reports = (done_in scene deed part).reports;
   refused = false;
 }
@@ -63,27 +63,27 @@ ran_one_is scene deed part holds =
 
 pub one_done : (scene : Scene) (deed : SessionDeed) (part : Part) (new : Loopback) (before now : Reporting)
     → is_allowed scene deed part ≡ true
-    → StandsFor new scene.session scene.ticks (settled scene.moment (done_in scene deed part).value)
+    → IsLoopbackOf new scene.session scene.ticks (settled_part scene.moment (done_in scene deed part).value)
     → now ≡ with_reports before (done_in scene deed part).reports → RanAll scene (deed ∷ []) part true new before now
 one_done scene deed part new before now holds stands text =
-    subst (λ (r : RanIn). Ran scene r true new before now) (sym (ran_one_is scene deed part holds))
+    subst (λ (r : RanIn). RanScene scene r true new before now) (sym (ran_one_is scene deed part holds))
     (record { done_is = refl; stands = λ _. stands; text = text })
 
 pub one_refused : (scene : Scene) (deed : SessionDeed) (part : Part) (new : Loopback) (before now : Reporting)
     → is_allowed scene deed part ≡ false → now ≡ before → RanAll scene (deed ∷ []) part false new before now
 one_refused scene deed part new before now isnt same =
-    subst (λ (r : RanIn). Ran scene r false new before now) (sym (ran_off scene deed [] part isnt))
+    subst (λ (r : RanIn). RanScene scene r false new before now) (sym (ran_off scene deed [] part isnt))
     (record { done_is = refl; stands = λ e. absurd cc; text = same ∙ sym (with_none before) })
 
 -- an attempt, behind which both sides wrote out where it was done
 pub attempt_ran : (scene : Scene) (deed : SessionDeed) (part : Part) (done : Bool) (moment : ℕ) (mid new : Loopback) (before now : Reporting)
     → scene.moment ≡ moment → Attempts scene deed part done mid before now
-    → (done ≡ true → (session : ℕ) (ticks : List Tick) (p : Part) → StandsFor mid session ticks p
-    → StandsFor new session ticks (settled moment p))
+    → (done ≡ true → (session : ℕ) (ticks : List Tick) (p : Part) → IsLoopbackOf mid session ticks p
+    → IsLoopbackOf new session ticks (settled_part moment p))
     → RanAll scene (deed ∷ []) part done new before now
 attempt_ran scene deed part true moment mid new before now at did settles =
     one_done scene deed part new before now did.0
-    (subst (λ (m : ℕ). StandsFor new scene.session scene.ticks (settled m (done_in scene deed part).value)) (sym at)
+    (subst (λ (m : ℕ). IsLoopbackOf new scene.session scene.ticks (settled_part m (done_in scene deed part).value)) (sym at)
     (settles refl scene.session scene.ticks (done_in scene deed part).value did.1.stands))
     did.1.text
 attempt_ran scene deed part false moment mid new before now at did settles =
@@ -91,12 +91,12 @@ attempt_ran scene deed part false moment mid new before now at did settles =
 
 -- both sides write out where the deed was done, which a call tells
 pub call_ran : {E : Type 0} (deed : SessionDeed) (done : Bool) (moment : ℕ) (old mid new : Loopback) (before now : Reporting) (r : Result Bool E)
-    → ((scene : Scene) (part : Part) → scene.moment ≡ moment → StandsFor old scene.session scene.ticks part
+    → ((scene : Scene) (part : Part) → scene.moment ≡ moment → IsLoopbackOf old scene.session scene.ticks part
     → Attempts scene deed part done mid before now)
     → IfOk r (λ told. told ≡ done)
-    → OnOk r (done ≡ true → (session : ℕ) (ticks : List Tick) (p : Part) → StandsFor mid session ticks p
-    → StandsFor new session ticks (settled moment p))
-    → IfOk r (λ told. (scene : Scene) (part : Part) → scene.moment ≡ moment → StandsFor old scene.session scene.ticks part
+    → OnOk r (done ≡ true → (session : ℕ) (ticks : List Tick) (p : Part) → IsLoopbackOf mid session ticks p
+    → IsLoopbackOf new session ticks (settled_part moment p))
+    → IfOk r (λ told. (scene : Scene) (part : Part) → scene.moment ≡ moment → IsLoopbackOf old scene.session scene.ticks part
     → RanAll scene (deed ∷ []) part told new before now)
 call_ran deed done moment old mid new before now (Ok told) did same settles = λ scene part at h.
     subst (λ (b : Bool). RanAll scene (deed ∷ []) part b new before now) (sym same)
@@ -105,13 +105,13 @@ call_ran deed done moment old mid new before now (Err e) did same settles = tt
 
 -- the same of the client that closes, of which nothing is reported
 pub close_ran : {E : Type 0} (done : Bool) (moment : ℕ) (old mid new : Loopback) (r : Result Bool E)
-    → ((scene : Scene) (part : Part) (before : Reporting) → StandsFor old scene.session scene.ticks part
+    → ((scene : Scene) (part : Part) (before : Reporting) → IsLoopbackOf old scene.session scene.ticks part
     → Attempts scene Close part done mid before before)
     → IfOk r (λ told. told ≡ done)
-    → OnOk r (done ≡ true → (session : ℕ) (ticks : List Tick) (p : Part) → StandsFor mid session ticks p
-    → StandsFor new session ticks (settled moment p))
+    → OnOk r (done ≡ true → (session : ℕ) (ticks : List Tick) (p : Part) → IsLoopbackOf mid session ticks p
+    → IsLoopbackOf new session ticks (settled_part moment p))
     → IfOk r (λ told. (scene : Scene) (part : Part) (before : Reporting) → scene.moment ≡ moment
-    → StandsFor old scene.session scene.ticks part → RanAll scene (Close ∷ []) part told new before before)
+    → IsLoopbackOf old scene.session scene.ticks part → RanAll scene (Close ∷ []) part told new before before)
 close_ran done moment old mid new (Ok told) did same settles = λ scene part before at h.
     subst (λ (b : Bool). RanAll scene (Close ∷ []) part b new before before) (sym same)
     (attempt_ran scene Close part done moment mid new before before at (did scene part before h) settles)
@@ -125,7 +125,7 @@ pub client_attempts : (scene : Scene) (deed : SessionDeed) (part : Part) (allowe
     → Attempts scene deed part done new before now
 client_attempts scene deed part allowed did true new before now a d host marks x = (
   a ∙ x.0,
-  subst (λ (y : Acted Part). Did (StandsFor new scene.session scene.ticks) y before now) (sym d)
+  subst (λ (y : Acted Part). Did (IsLoopbackOf new scene.session scene.ticks) y before now) (sym d)
       (record { stands = record { host = host; client = x.1.stands; marks = marks }; text = x.1.text }),
 )
 client_attempts scene deed part allowed did false new before now a d host marks x = (a ∙ x.0, x.1)
@@ -141,11 +141,11 @@ one_allowed scene deed part done new before now ran = by (is_allowed scene deed 
 
 pub one_stands : (scene : Scene) (deed : SessionDeed) (part : Part) (new : Loopback) (before now : Reporting)
     → RanAll scene (deed ∷ []) part true new before now
-    → Did (StandsFor new scene.session scene.ticks) (settled_in scene deed part) before now
+    → Did (IsLoopbackOf new scene.session scene.ticks) (settled_in scene deed part) before now
 one_stands scene deed part new before now ran =
     let e = ran_one_is scene deed part (one_allowed scene deed part true new before now ran) in
-    let one : Ran scene (ran_one scene deed part) true new before now =
-    subst (λ (r : RanIn). Ran scene r true new before now) e ran in
+    let one : RanScene scene (ran_one scene deed part) true new before now =
+    subst (λ (r : RanIn). RanScene scene r true new before now) e ran in
     record {
       stands = one.stands refl;
       text = one.text ∙ ap (with_reports before) (sym (append-nil (done_in scene deed part).reports));

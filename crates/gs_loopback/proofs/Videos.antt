@@ -9,11 +9,11 @@ use Rattle.gs_run.specs.Deed.{SessionDeed, TakeVideo}
 use Rattle.gs_run.specs.Refusal.{is_allowed}
 use Rattle.gs_run.specs.Done.{settled_in}
 use Rattle.gs_report.specs.Reporting.{Reporting, Did, with_reports}
+use Rattle.gs_report.proofs.Reported.{then_more, with_none}
 use Rattle.gs_loopback.specs.declared.session.Loopback.{Loopback}
-use Rattle.gs_loopback.specs.Standing.{StandsFor}
+use Rattle.gs_loopback.specs.Standing.{IsLoopbackOf}
 use Rattle.gs_loopback.specs.Running.{RanIn, ran_in, video_deeds}
-use Rattle.gs_loopback.specs.Outcomes.{Ran, RanAll}
-use Rattle.gs_loopback.proofs.Reported.{with_none, then_more}
+use Rattle.gs_loopback.specs.Outcomes.{RanScene, RanAll}
 use Rattle.gs_loopback.proofs.Turns.{refused_at, ran_on, ran_off, ran_none, one_allowed, one_stands, one_unchanged}
 use Rattle.gs_loopback.proofs.Pumps.{behind}
 
@@ -35,13 +35,13 @@ from_split first (suc m) n =
 pub record VideosSoFar (scene : Scene) (first number : ℕ) (start : Part) (before : Reporting) (new : Loopback) (now : Reporting) : Type 0 where
   pub part : Part
   pub reports : List Report
-  pub stands : StandsFor new scene.session scene.ticks part
+  pub stands : IsLoopbackOf new scene.session scene.ticks part
   pub text : now ≡ with_reports before reports
   pub goes_on : (deeds : List SessionDeed)
       → ran_in scene (videos_from first (number - first) ++ deeds) start ≡ behind reports (ran_in scene deeds part)
 
 pub videos_begin : (scene : Scene) (first : ℕ) (start : Part) (before : Reporting) (new : Loopback)
-    → StandsFor new scene.session scene.ticks start → VideosSoFar scene first first start before new before
+    → IsLoopbackOf new scene.session scene.ticks start → VideosSoFar scene first first start before new before
 videos_begin scene first start before new stands = record {
   part = start;
   reports = [];
@@ -60,7 +60,7 @@ videos_move scene first number next start before mid new now after begun moves f
     let deed : SessionDeed = TakeVideo number in
     let did : Acted Part = settled_in scene deed far.part in
     let holds : is_allowed scene deed far.part ≡ true = one_allowed scene deed far.part true new now after ran in
-    let done : Did (StandsFor new scene.session scene.ticks) did now after = one_stands scene deed far.part new now after ran in
+    let done : Did (IsLoopbackOf new scene.session scene.ticks) did now after = one_stands scene deed far.part new now after ran in
     let count : next - first ≡ number - first + 1 = omega (arith, begun, moves) in
     let place : first + (number - first) ≡ number = omega (arith, begun) in
     let one_more : videos_from first (next - first) ≡ videos_from first (number - first) ++ deed ∷ [] =
@@ -90,7 +90,7 @@ videos_end scene first last number start before new now all far =
     ap (λ (k : ℕ). ran_in scene (videos_from first k) start) (sym all)
     ∙ ap (λ (l : List SessionDeed). ran_in scene l start) (sym (append-nil deeds))
     ∙ far.goes_on [] ∙ ap (behind far.reports) (ran_none scene far.part) in
-    subst (λ (r : RanIn). Ran scene r true new before now) (sym whole) (record {
+    subst (λ (r : RanIn). RanScene scene r true new before now) (sym whole) (record {
       done_is = refl;
       stands = λ _. far.stands;
       text = far.text ∙ ap (with_reports before) (sym (append-nil far.reports));
@@ -114,7 +114,7 @@ videos_stop scene first last number start before mid new now after begun within 
     let whole : ran_in scene (video_deeds first last) start ≡ behind far.reports (refused_at far.part) =
     ap (λ (l : List SessionDeed). ran_in scene l start) deeds ∙ far.goes_on (deed ∷ rest)
     ∙ ap (behind far.reports) (ran_off scene deed rest far.part isnt) in
-    subst (λ (r : RanIn). Ran scene r false new before after) (sym whole) (record {
+    subst (λ (r : RanIn). RanScene scene r false new before after) (sym whole) (record {
       done_is = refl;
       stands = λ e. absurd cc;
       text = same ∙ far.text ∙ ap (with_reports before) (sym (append-nil far.reports));

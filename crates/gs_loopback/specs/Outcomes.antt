@@ -7,24 +7,24 @@ use Rattle.gs_run.specs.Refusal.{is_allowed}
 use Rattle.gs_run.specs.Done.{done_in}
 use Rattle.gs_report.specs.Reporting.{Reporting, Did, with_reports}
 use Rattle.gs_loopback.specs.declared.session.Loopback.{Loopback}
-use Rattle.gs_loopback.specs.Standing.{StandsFor}
+use Rattle.gs_loopback.specs.Standing.{IsLoopbackOf}
 use Rattle.gs_loopback.specs.Running.{RanIn, ran_in, ArePumped, pump_start}
 
 -- Deeds were done, up to one that was refused. Their reports were added. Where none was refused the session stands for
 -- what they left.
-pub record Ran (scene : Scene) (ran : RanIn) (done : Bool) (new : Loopback) (before now : Reporting) : Type 0 where
+pub record RanScene (scene : Scene) (ran : RanIn) (done : Bool) (new : Loopback) (before now : Reporting) : Type 0 where
   pub done_is : done ≡ not ran.refused
-  pub stands : done ≡ true → StandsFor new scene.session scene.ticks ran.part
+  pub stands : done ≡ true → IsLoopbackOf new scene.session scene.ticks ran.part
   pub text : now ≡ with_reports before ran.reports
 
 abbrev pub RanAll : Scene → List SessionDeed → Part → Bool → Loopback → Reporting → Reporting → Type 0
-RanAll scene deeds part = Ran scene (ran_in scene deeds part)
+RanAll scene deeds part = RanScene scene (ran_in scene deeds part)
 
 -- A deed was done, before anything is written out, exactly where it is allowed. Where it is not, nothing is reported.
 abbrev pub Attempts : Scene → SessionDeed → Part → Bool → Loopback → Reporting → Reporting → Type 0
 Attempts scene deed part true new before now =
     (is_allowed scene deed part ≡ true)
-    × Did (StandsFor new scene.session scene.ticks) (done_in scene deed part) before now
+    × Did (IsLoopbackOf new scene.session scene.ticks) (done_in scene deed part) before now
 Attempts scene deed part false new before now = (is_allowed scene deed part ≡ false) × (now ≡ before)
 
 -- the deeds of a pump were done

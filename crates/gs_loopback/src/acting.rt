@@ -6,11 +6,11 @@ ghost use Rattle.gs_input.specs.Event.{HasButton, IsKnown};
 ghost use Rattle.gs_run.specs.Session.{Part};
 ghost use Rattle.gs_run.specs.Scene.{Scene};
 ghost use Rattle.gs_run.specs.Deed.{Turn, Give, AskIdr, Close, Reset};
-ghost use Rattle.gs_run.specs.Connection.{settled};
-ghost use Rattle.gs_run.specs.Hearing.{timed};
+ghost use Rattle.gs_run.specs.Connection.{settled_part};
+ghost use Rattle.gs_run.specs.Hearing.{timed_part};
 ghost use Rattle.gs_report.specs.Reporting.{Reporting, Did};
 ghost use Rattle.gs_host_end.specs.Outcomes.{IsCapturedOf, KeepsTicks, SentNothing};
-ghost use Rattle.gs_loopback.specs.Standing.{StandsFor};
+ghost use Rattle.gs_loopback.specs.Standing.{IsLoopbackOf};
 ghost use Rattle.gs_loopback.specs.Outcomes.{RanAll};
 
 use crate::session::Loopback;
@@ -30,7 +30,7 @@ impl Loopback {
         requires keeps { KeepsTicks feed.now self.old.host }
         ensures keeps { OnOk result (KeepsTicks feed.now self.new.host) }
         ensures ran { OnOk result ((scene : Scene) (part : Part) → IsCapturedOf feed.now scene → scene.moment ≡ now
-            → StandsFor self.old scene.session scene.ticks part
+            → IsLoopbackOf self.old scene.session scene.ticks part
             → RanAll scene (Turn ∷ []) part true self.new reporter.old reporter.new) }
     {
         self.host.turn(feed, reporter)?;
@@ -48,7 +48,7 @@ impl Loopback {
         requires known { IsKnown event.now }
         requires button { HasButton event.now }
         ensures ran { IfOk result (λ done. (scene : Scene) (part : Part) → scene.moment ≡ now
-            → StandsFor self.old scene.session scene.ticks part
+            → IsLoopbackOf self.old scene.session scene.ticks part
             → RanAll scene (Give event.now ∷ []) part done self.new reporter.old reporter.new) }
         ensures sent { OnOk result (SentNothing self.old.host self.new.host) }
     {
@@ -59,7 +59,7 @@ impl Loopback {
     /// The client asks for a frame that needs no other, as `give` does.
     pub fn ask_idr(&mut self, now: u32, reporter: &mut Reporter) -> Result<bool, OutOfMemory>
         ensures ran { IfOk result (λ done. (scene : Scene) (part : Part) → scene.moment ≡ now
-            → StandsFor self.old scene.session scene.ticks part
+            → IsLoopbackOf self.old scene.session scene.ticks part
             → RanAll scene (AskIdr ∷ []) part done self.new reporter.old reporter.new) }
         ensures sent { OnOk result (SentNothing self.old.host self.new.host) }
     {
@@ -70,7 +70,7 @@ impl Loopback {
     /// The client closes, and both sides write out. Answers false where it is closed or lost.
     pub fn close(&mut self, now: u32) -> Result<bool, OutOfMemory>
         ensures ran { IfOk result (λ done. (scene : Scene) (part : Part) (before : Reporting) → scene.moment ≡ now
-            → StandsFor self.old scene.session scene.ticks part
+            → IsLoopbackOf self.old scene.session scene.ticks part
             → RanAll scene (Close ∷ []) part done self.new before before) }
         ensures sent { OnOk result (SentNothing self.old.host self.new.host) }
     {
@@ -82,7 +82,7 @@ impl Loopback {
     /// lost, or would ask once more than a channel may have; then nothing is reported.
     pub fn reset(&mut self, now: u32, reporter: &mut Reporter) -> Result<bool, OutOfMemory>
         ensures ran { IfOk result (λ done. (scene : Scene) (part : Part) → scene.moment ≡ now
-            → StandsFor self.old scene.session scene.ticks part
+            → IsLoopbackOf self.old scene.session scene.ticks part
             → RanAll scene (Reset ∷ []) part done self.new reporter.old reporter.new) }
         ensures sent { OnOk result (SentNothing self.old.host self.new.host) }
     {
@@ -93,8 +93,8 @@ impl Loopback {
     /// The timers of both sides run, the client's first. Nothing is written yet.
     pub fn timer(&mut self, now: u32, reporter: &mut Reporter) -> Result<(), OutOfMemory>
         ensures timed { OnOk result ((session : ℕ) (ticks : List Tick) (part : Part)
-            → StandsFor self.old session ticks part
-            → Did (StandsFor self.new session ticks) (timed session now part) reporter.old reporter.new) }
+            → IsLoopbackOf self.old session ticks part
+            → Did (IsLoopbackOf self.new session ticks) (timed_part session now part) reporter.old reporter.new) }
         ensures sent { OnOk result (SentNothing self.old.host self.new.host) }
     {
         self.client.timer(now, reporter)?;
@@ -103,9 +103,9 @@ impl Loopback {
 
     // Both sides write out behind what was done.
     fn settle_if(&mut self, done: bool, now: u32) -> Result<bool, OutOfMemory>
-        ensures same { IfOk result (λ settled. settled ≡ done) }
+        ensures same { IfOk result (λ settled_part. settled_part ≡ done) }
         ensures settled { OnOk result (done ≡ true → (session : ℕ) (ticks : List Tick) (part : Part)
-            → StandsFor self.old session ticks part → StandsFor self.new session ticks (settled now part)) }
+            → IsLoopbackOf self.old session ticks part → IsLoopbackOf self.new session ticks (settled_part now part)) }
         ensures sent { OnOk result (SentNothing self.old.host self.new.host) }
     {
         if done {

@@ -5,7 +5,7 @@ ghost use Rattle.gs_run.specs.Session.{Part};
 ghost use Rattle.gs_host_end.specs.Outcomes.{SentNothing};
 ghost use Rattle.gs_run.specs.Scene.{Scene};
 ghost use Rattle.gs_run.specs.Deed.{TakeVideo, TakeAudio};
-ghost use Rattle.gs_loopback.specs.Standing.{StandsFor};
+ghost use Rattle.gs_loopback.specs.Standing.{IsLoopbackOf};
 ghost use Rattle.gs_loopback.specs.Running.{run_delivery, video_deeds};
 ghost use Rattle.gs_loopback.specs.Outcomes.{RanAll, Attempts};
 
@@ -24,7 +24,7 @@ impl Loopback {
         reporter: &mut Reporter,
     ) -> Result<bool, OutOfMemory>
         ensures ran { IfOk result (λ done. (scene : Scene) (part : Part) → scene.moment ≡ now
-            → StandsFor self.old scene.session scene.ticks part
+            → IsLoopbackOf self.old scene.session scene.ticks part
             → RanAll scene (run_delivery delivery ∷ []) part done self.new reporter.old reporter.new) }
         ensures sent { OnOk result (SentNothing self.old.host self.new.host) }
     {
@@ -43,7 +43,7 @@ impl Loopback {
         reporter: &mut Reporter,
     ) -> Result<bool, OutOfMemory>
         ensures attempted { IfOk result (λ done. (scene : Scene) (part : Part) → scene.moment ≡ now
-            → StandsFor self.old scene.session scene.ticks part
+            → IsLoopbackOf self.old scene.session scene.ticks part
             → Attempts scene (run_delivery delivery) part done self.new reporter.old reporter.new) }
         ensures sent { OnOk result (SentNothing self.old.host self.new.host) }
     {
@@ -59,7 +59,7 @@ impl Loopback {
 
     fn take_video(&mut self, number: u64, reporter: &mut Reporter) -> Result<bool, OutOfMemory>
         ensures attempted { IfOk result (λ done. (scene : Scene) (part : Part)
-            → StandsFor self.old scene.session scene.ticks part
+            → IsLoopbackOf self.old scene.session scene.ticks part
             → Attempts scene (TakeVideo number) part done self.new reporter.old reporter.new) }
         ensures sent { OnOk result (SentNothing self.old.host self.new.host) }
     {
@@ -71,7 +71,7 @@ impl Loopback {
 
     fn take_audio(&mut self, number: u64, reporter: &mut Reporter) -> Result<bool, OutOfMemory>
         ensures attempted { IfOk result (λ done. (scene : Scene) (part : Part)
-            → StandsFor self.old scene.session scene.ticks part
+            → IsLoopbackOf self.old scene.session scene.ticks part
             → Attempts scene (TakeAudio number) part done self.new reporter.old reporter.new) }
         ensures sent { OnOk result (SentNothing self.old.host self.new.host) }
     {
@@ -92,7 +92,7 @@ impl Loopback {
         reporter: &mut Reporter,
     ) -> Result<bool, OutOfMemory>
         ensures ran { IfOk result (λ done. (scene : Scene) (part : Part) → scene.moment ≡ now
-            → StandsFor self.old scene.session scene.ticks part
+            → IsLoopbackOf self.old scene.session scene.ticks part
             → RanAll scene (video_deeds first last) part done self.new reporter.old reporter.new) }
         ensures sent { OnOk result (SentNothing self.old.host self.new.host) }
     {

@@ -7,7 +7,7 @@ ghost use Rattle.gs_run.specs.Scene.{Scene};
 ghost use Rattle.gs_run.specs.Deed.{Mark};
 ghost use Rattle.gs_run.specs.Pump.{ends_of};
 ghost use Rattle.gs_run.specs.Done.{settled_in};
-ghost use Rattle.gs_loopback.specs.Standing.{StandsFor, run_marks};
+ghost use Rattle.gs_loopback.specs.Standing.{IsLoopbackOf, run_marks};
 ghost use Rattle.gs_loopback.specs.Outcomes.{Pumped};
 
 use crate::marks::Marks;
@@ -19,7 +19,7 @@ use gs_report::Reporter;
 impl Loopback {
     // How many datagrams there are of each kind.
     fn ends(&self) -> Marks
-        ensures { (scene : Scene) (part : Part) → StandsFor self.now scene.session scene.ticks part
+        ensures { (scene : Scene) (part : Part) → IsLoopbackOf self.now scene.session scene.ticks part
             → run_marks result ≡ ends_of scene part }
     {
         Marks {
@@ -43,7 +43,7 @@ impl Loopback {
         reporter: &mut Reporter,
     ) -> Result<bool, OutOfMemory>
         ensures pumped { IfOk result (λ done. (scene : Scene) (part : Part) → scene.moment ≡ now
-            → StandsFor self.old scene.session scene.ticks part
+            → IsLoopbackOf self.old scene.session scene.ticks part
             → Pumped scene every part done self.new reporter.old reporter.new) }
         ensures sent { OnOk result (SentNothing self.old.host self.new.host) }
     {
@@ -64,8 +64,8 @@ impl Loopback {
     // The marks move to the end, and both sides write out.
     fn mark(&mut self, now: u32) -> Result<(), OutOfMemory>
         ensures marked { OnOk result ((scene : Scene) (part : Part) → scene.moment ≡ now
-            → StandsFor self.old scene.session scene.ticks part
-            → StandsFor self.new scene.session scene.ticks (settled_in scene Mark part).value) }
+            → IsLoopbackOf self.old scene.session scene.ticks part
+            → IsLoopbackOf self.new scene.session scene.ticks (settled_in scene Mark part).value) }
         ensures sent { OnOk result (SentNothing self.old.host self.new.host) }
     {
         self.marks = self.ends();

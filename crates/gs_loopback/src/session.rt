@@ -5,7 +5,7 @@ ghost use Rattle.gs_tape.specs.Tick.{Tick};
 ghost use Rattle.gs_run.specs.Session.{Part};
 ghost use Rattle.gs_feed.specs.Feeding.{Feeding};
 ghost use Rattle.gs_host_end.specs.Outcomes.{KeepsTicks, SentNothing, tick_sent};
-ghost use Rattle.gs_loopback.specs.Standing.{StandsFor};
+ghost use Rattle.gs_loopback.specs.Standing.{IsLoopbackOf};
 
 use crate::delivery::Delivery;
 use crate::marks::Marks;
@@ -39,7 +39,7 @@ impl Loopback {
     ghost use Rattle.std.specs.Prelude.{◌-◌};
     ghost use Rattle.gs_rtp.specs.Stream.{numbers_of};
     ghost use Rattle.gs_frames.specs.Client.{ClientSettings, least_window, most_window};
-    ghost use Rattle.gs_run.specs.Connection.{settled};
+    ghost use Rattle.gs_run.specs.Connection.{settled_part};
     ghost use Rattle.gs_run.specs.Opening.{new_part, opened_part, most_sessions};
     ghost use Rattle.gs_loopback.specs.Standing.{AreSums};
 
@@ -58,7 +58,7 @@ impl Loopback {
         requires greatest { window ≤ most_window }
         ensures stands { IfOk result (λ opened. (ticks : List Tick) (c : ClientSettings)
             → c.stream ≡ numbers_of settings.now → c.stream.ssrc ≡ session → c.window ≡ window
-            → StandsFor opened session ticks (opened_part session now c)) }
+            → IsLoopbackOf opened session ticks (opened_part session now c)) }
         ensures keeps { IfOk result (λ opened. (feed : Feeding) → feed.tape.audio ≡ settings.now.audio
             → KeepsTicks feed opened.host) }
     {
@@ -84,7 +84,7 @@ impl Loopback {
         requires greatest { window ≤ most_window }
         ensures stands { IfOk result (λ opened. (ticks : List Tick) (c : ClientSettings)
             → c.stream ≡ numbers_of settings.now → c.stream.ssrc ≡ session → c.window ≡ window
-            → StandsFor opened session ticks (new_part (session - 1) now c)) }
+            → IsLoopbackOf opened session ticks (new_part (session - 1) now c)) }
         ensures keeps { IfOk result (λ opened. (feed : Feeding) → feed.tape.audio ≡ settings.now.audio
             → KeepsTicks feed opened.host) }
     {
@@ -103,7 +103,7 @@ impl Loopback {
     /// What is owed is given as far as it may be, and both sides write out.
     pub fn settle(&mut self, now: u32) -> Result<(), OutOfMemory>
         ensures settled { OnOk result ((session : ℕ) (ticks : List Tick) (part : Part)
-            → StandsFor self.old session ticks part → StandsFor self.new session ticks (settled now part)) }
+            → IsLoopbackOf self.old session ticks part → IsLoopbackOf self.new session ticks (settled_part now part)) }
         ensures sent { OnOk result (SentNothing self.old.host self.new.host) }
     {
         self.client.settle(now)?;
@@ -119,7 +119,7 @@ impl Loopback {
 
     /// The sums of what was done.
     pub fn sums(&self) -> Sums
-        ensures { (session : ℕ) (ticks : List Tick) (part : Part) → StandsFor self.now session ticks part
+        ensures { (session : ℕ) (ticks : List Tick) (part : Part) → IsLoopbackOf self.now session ticks part
             → AreSums result part }
     {
         let client = self.client.sums();

@@ -62,7 +62,8 @@ impl<F: Read> Source for FileSource<F> {
     fn read(&mut self, into: &mut [u8]) -> Result<usize, Failed>
         requires { 0 < length into.old }
         ensures bound { IfOk result (λ n. n ≤ length into.new) }
-        ensures left { ReadConsumes (left_in F.remaining self.old.inner) (left_in F.remaining self.new.inner) result into.new }
+        ensures left { ReadConsumes (left_in F.remaining self.old.inner)
+            (left_in F.remaining self.new.inner) result into.new }
         ensures never_falls { self.old.faults ≤ self.new.faults }
         ensures counted { IsCounted self.old.faults self.new.faults result }
         ensures unopened { IsNone self.old.inner → result ≡ Err Failed.Fault }

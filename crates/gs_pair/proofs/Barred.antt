@@ -8,11 +8,10 @@ use Rattle.std.proofs.lemmas.Bool.{not_from_false, false≢true}
 use Rattle.std.proofs.lemmas.List.Elements.{All-nil, All-cons, All-weaker, All-filter, All-contains, All-contains_itself, filter_passes}
 use Rattle.std.proofs.lemmas.List.Folds.{Any-from_list_any, list_any-from_Any}
 use Rattle.gs_frames.specs.Client.{ClientSettings, Arrival, Datagram, Reset}
-use Rattle.gs_frames.specs.Received.{taken}
-use Rattle.gs_frames.specs.Settled.{settled}
 use Rattle.gs_frames.specs.Handed.{Handed, is_re_entry, settled_at_resets, last_reset_before, has_idr_since, is_barred, handed}
 use Rattle.gs_frames.specs.HandedLaws.{handed_below, IsToHand}
-use Rattle.gs_frames.proofs.SettledUp.{settled_never_falls}
+use Rattle.gs_bytes.proofs.Lists.{contains_behind}
+use Rattle.gs_frames.proofs.HandedNext.{resets-within}
 
 -- ---- lists
 
@@ -22,9 +21,6 @@ one_or_behind y ys x (suc k, within, at) = inr (k, omega arith, at)
 
 pub in_front : {X : Type 0} (x : X) (xs : List X) → Contains (x ∷ xs) x
 in_front x xs = (0, omega arith, refl)
-
-pub behind_one : {X : Type 0} (y : X) (ys : List X) (x : X) → Contains ys x → Contains (y ∷ ys) x
-behind_one y ys x found = (suc found.0, omega (arith, found.1), found.2)
 
 -- what passes the test is kept
 kept : {X : Type 0} (test : X → Bool) (xs : List X) (x : X) → test x ≡ true → Contains xs x → Contains (filter test xs) x
@@ -40,7 +36,7 @@ kept {X} test (y ∷ ys) x passes found =
       | inr behind ↦ elim (cases_Bool (test y)) [
         | inl also ↦
             subst Has (sym (cond-true (test y) (y ∷ filter test ys) (filter test ys) also))
-            (behind_one y (filter test ys) x (kept test ys x passes behind))
+            (contains_behind y (filter test ys) x (kept test ys x passes behind))
         | inr other ↦ subst Has (sym (cond-false (test y) (y ∷ filter test ys) (filter test ys) other)) (kept test ys x passes behind)
       ]
     ]
@@ -61,19 +57,6 @@ is_below client came f g among less = kept (λ h. nat_lt h.frame f) (handed clie
 
 -- ---- resets
 
--- none is above what is settled now
-pub resets_within : (client : ClientSettings) (came : List Arrival) → All (λ s. s ≤ settled client (taken client came)) (settled_at_resets client came)
-resets_within client [] = All-nil (λ s. s ≤ settled client (taken client []))
-resets_within client (Datagram bytes ∷ came) =
-    let grows = settled_never_falls client (Datagram bytes) came in
-    All-weaker (λ s. s ≤ settled client (taken client came)) (λ s. s ≤ settled client (taken client (Datagram bytes ∷ came)))
-    (λ s most. omega arith) (settled_at_resets client came) (resets_within client came)
-resets_within client (Reset ∷ came) =
-    let grows = settled_never_falls client Reset came in
-    All-cons (λ s. s ≤ settled client (taken client (Reset ∷ came))) (settled client (taken client came)) (settled_at_resets client came) grows
-    (All-weaker (λ s. s ≤ settled client (taken client came)) (λ s. s ≤ settled client (taken client (Reset ∷ came)))
-    (λ s most. omega arith) (settled_at_resets client came) (resets_within client came))
-
 -- the newest is the greatest
 abbrev NewestFirst : List ℕ → Type 0
 NewestFirst [] = Unit {0}
@@ -82,7 +65,7 @@ NewestFirst (s ∷ resets) = All (λ t. t ≤ s) resets × NewestFirst resets
 newest_first : (client : ClientSettings) (came : List Arrival) → NewestFirst (settled_at_resets client came)
 newest_first client [] = tt
 newest_first client (Datagram bytes ∷ came) = newest_first client came
-newest_first client (Reset ∷ came) = (resets_within client came, newest_first client came)
+newest_first client (Reset ∷ came) = (resets-within client came, newest_first client came)
 
 -- the greatest reset before a frame, where there is one
 abbrev IsLastBefore : List ℕ → ℕ → Option ℕ → Type 0
@@ -109,7 +92,7 @@ last_is (s ∷ resets) f order =
     more : (o : Option ℕ) → IsLastBefore resets f o → f ≤ s → IsLastBefore (s ∷ resets) f o
     more None all above = All-cons (λ t. f ≤ t) s resets above all
     more (Some t) is above = (
-      behind_one s resets t is.0,
+      contains_behind s resets t is.0,
       is.1,
       All-cons (λ r. r < f → r ≤ t) s resets (λ less. absurd (omega arith)) is.2,
     )

@@ -12,8 +12,10 @@ use Rattle.gs_frames.specs.Received.{taken}
 use Rattle.gs_frames.specs.Settled.{settled}
 use Rattle.gs_frames.specs.Handed.{Handed, settled_at_resets, handed, newly_handed}
 use Rattle.gs_frames.proofs.HandedGrows.{handed_exactly, arrival_hands, reset_hands_nothing}
+use Rattle.gs_frames.proofs.HandedNext.{resets-within}
 use Rattle.gs_pair.specs.References.{handed_frames, reset_cuts, CutsAreInOrder}
-use Rattle.gs_pair.proofs.Barred.{resets_within, in_front, behind_one}
+use Rattle.gs_bytes.proofs.Lists.{contains_behind}
+use Rattle.gs_pair.proofs.Barred.{in_front}
 
 -- ---- places
 
@@ -96,7 +98,7 @@ new_above client arrival came reset most =
 cut_stays : (client : ClientSettings) (arrival : Arrival) (came : List Arrival) (cut : ℕ) (is : IsResetCut client came cut)
     → IsCut (handed client (arrival ∷ came)) is.reset cut
 cut_stays client arrival came cut is =
-    let most = All-contains (λ s. s ≤ settled client (taken client came)) (settled_at_resets client came) is.reset (resets_within client came) is.is_reset in
+    let most = All-contains (λ s. s ≤ settled client (taken client came)) (settled_at_resets client came) is.reset (resets-within client came) is.is_reset in
     let Cut : List Handed → Type 0 = λ hs. IsCut hs is.reset cut in
     subst Cut (sym (arrival_hands client arrival came))
     (cut-more (handed client came) (newly_handed client arrival came) is.reset cut is.is_cut (new_above client arrival came is.reset most))
@@ -126,7 +128,7 @@ cuts_are client (Reset ∷ came) =
     let resets = settled_at_resets client came in
     All-push (IsResetCut client (Reset ∷ came)) (reset_cuts client came) (length (handed client came))
     (All-weaker (IsResetCut client came) (IsResetCut client (Reset ∷ came))
-    (λ cut is. record { reset = is.reset; is_reset = behind_one s resets is.reset is.is_reset; is_cut = cut_stays client Reset came cut is })
+    (λ cut is. record { reset = is.reset; is_reset = contains_behind s resets is.reset is.is_reset; is_cut = cut_stays client Reset came cut is })
     (reset_cuts client came) (cuts_are client came))
     (record { reset = s; is_reset = in_front s resets; is_cut = new_cut client came })
 

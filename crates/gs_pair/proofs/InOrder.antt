@@ -3,7 +3,7 @@ use Rattle.std.proofs.Common.{ℕ, ℤ, ◌≡◌, ◌⊎◌, ◌+◌, ◌<◌, 
 use Rattle.std.proofs.Common.{◌∙◌, arith, inl, inr, take-append-drop}
 use Rattle.std.specs.List.Sorted.{IsStrictlyIncreasing}
 use Rattle.std.proofs.lemmas.Bool.{cases_eq}
-use Rattle.std.proofs.lemmas.List.{take_more, reverse-append}
+use Rattle.std.proofs.lemmas.List.{reverse-append}
 use Rattle.gs_refs.specs.declared.entry.Entry.{Entry}
 use Rattle.gs_refs.specs.declared.entry.Entry.TheVariants.{Invalid, IdrAsked, Ended}
 use Rattle.gs_refs.specs.History.{frames, reference_or_none, reference_of}
@@ -36,12 +36,6 @@ reference_stays [] h v r refers = refers
 reference_stays (e ∷ more) h v r refers =
     let before = reference_stays more h v r refers in
     reference_of-before e (more ++ h) v (λ last. absurd (next_refers_to_none (more ++ h) v r (omega arith) before)) ∙ before
-
--- the history behind one more entry
-pub reverse-more : (entries : List Entry) (i : ℕ) (d : Entry) → i < length entries
-    → reverse (take (i + 1) entries) ≡ get_or entries i d ∷ reverse (take i entries)
-reverse-more entries i d within =
-    ap (λ (l : List Entry). reverse l) (take_more entries i d within) ∙ reverse-append (take i entries) (get_or entries i d ∷ [])
 
 -- ---- what is held
 

@@ -32,7 +32,8 @@ pub(crate) fn reference_named(kind: u8, reference: u32) -> Option<u32>
 // the reference of a frame, once the entry follows those that sent this many frames and gave it this reference
 fn reference_with(entry: Entry, sent: u64, frame: u32, known: Option<u32>) -> Option<u32>
     requires { sent < 2 ^ 63 }
-    ensures { (h : List Entry) → sent ≡ frames h → known ≡ reference_of h frame → result ≡ reference_of (entry ∷ h) frame }
+    ensures { (h : List Entry) → sent ≡ frames h → known ≡ reference_of h frame
+        → result ≡ reference_of (entry ∷ h) frame }
 {
     match entry {
         Entry::Sent {

@@ -1,6 +1,7 @@
 // Whether handed frames have their references before them.
 
-ghost use Rattle.std.specs.Prelude.{ℕ, ◌≡◌, ◌+◌, ◌^◌, ◌≤◌, ◌<◌, ◌↔◌, IsTrue, List, ◌∷◌, Some, length, reverse, slice_index};
+ghost use Rattle.std.specs.Prelude.{ℕ, ◌≡◌, ◌+◌, ◌^◌, ◌≤◌, ◌<◌, ◌↔◌, IsTrue, List, ◌∷◌, Some, length, reverse};
+ghost use Rattle.std.specs.Prelude.{slice_index};
 ghost use Rattle.std.specs.List.{All};
 ghost use Rattle.std.specs.List.Sorted.{IsNonDecreasing, IsStrictlyIncreasing};
 ghost use Rattle.gs_refs.specs.History.{frames, reference_of};
@@ -15,7 +16,8 @@ use gs_refs::Entry;
 fn is_reference_held(entries: &[Entry], handed: &[u32], cuts: &[u32], place: usize) -> bool
     requires rise { IsNonDecreasing cuts.now }
     requires within { place < length handed.now }
-    ensures { IsTrue result ↔ ((reference : ℕ) → reference_of (reverse entries.now) (slice_index handed.now place) ≡ Some reference
+    ensures { IsTrue result ↔ ((reference : ℕ)
+        → reference_of (reverse entries.now) (slice_index handed.now place) ≡ Some reference
         → StandsBefore handed.now cuts.now place reference) }
 {
     match reference_among(entries, handed[place]) {

@@ -1,5 +1,5 @@
 -- What a buffered reader hands on, call by call.
-use Rattle.std.proofs.Common.{◌≡◌, ◌≢◌, Result, Ok, Err, subst, ℕ, ◌+◌, ◌<◌, ◌≤◌, Bool, Option, None, Some, List, [], ◌∷◌, ◌++◌, length, take, drop, refl, sym}
+use Rattle.std.proofs.Common.{◌≡◌, ◌≢◌, Result, Ok, Err, subst, ℕ, ◌+◌, ◌<◌, ◌≤◌, Option, None, Some, List, [], ◌∷◌, ◌++◌, length, take, drop, refl, sym}
 use Rattle.std.proofs.Common.{ap, ◌∙◌, arith, append_assoc, take-append-drop}
 use Rattle.std.proofs.lemmas.List.{append-nil}
 use Rattle.std.specs.Io.KnownBytes.{Appends, Consumes, Keeps}
@@ -7,11 +7,7 @@ use Rattle.std.proofs.KnownBytes.{Appends-nil, Appends-trans, Consumes-nil, Cons
 use Rattle.gs_reader.specs.Buffered.{HandsOn, HandingOnIsAsTold}
 use Rattle.gs_bytes.specs.declared.failed.Failed.{Failed}
 use Rattle.gs_bytes.specs.declared.failed.Failed.TheVariants.{Fault, NoMemory}
-use Rattle.gs_bytes.specs.Outside.{KeepsFlag, IsCounted}
-
-pub KeepsFlag-refl : (a : Option Bool) → KeepsFlag a a
-KeepsFlag-refl None = tt
-KeepsFlag-refl (Some b) = refl
+use Rattle.gs_bytes.specs.Outside.{IsCounted}
 
 -- a reader hands on what it holds
 pub hands_on_held : (held held' : List ℕ) (left taken : Option (List ℕ)) (bytes : List ℕ) → held ≡ bytes ++ held'

@@ -1,8 +1,9 @@
 //! A buffered reader over any source.
 
-ghost use Rattle.std.specs.Prelude.{◌≡◌, ◌≢◌, ◌<◌, ◌≤◌, ◌+◌, ◌∷◌, ◌++◌, ◌==◌, [], true, false, not, IfNone, IfOk, IfSome, IsErrOf, OnOk, drop, length, min, take, vec_len};
+ghost use Rattle.std.specs.Prelude.{◌≡◌, ◌≢◌, ◌<◌, ◌≤◌, ◌+◌, ◌∷◌, ◌++◌, ◌==◌, [], true, false, not, IfNone, IfOk};
+ghost use Rattle.std.specs.Prelude.{IfSome, IsErrOf, OnOk, drop, length, min, take, vec_len};
 ghost use Rattle.std.specs.Io.KnownBytes.{Keeps};
-ghost use Rattle.gs_reader.specs.Buffered.{HandingOnIsAsTold, HandsOn, IsDone};
+ghost use Rattle.gs_reader.specs.Buffered.{HandingOnIsAsTold, HandsOn, HasNothingLeft, IsShort};
 ghost use Rattle.gs_bytes.specs.Outside.{KeepsFlag, Rose, SetsFlag};
 
 use crate::piece::{PIECE, read_piece};
@@ -58,14 +59,18 @@ impl BufferedReader {
     /// which it doesn't exactly at the end. A piece for which an allocation was refused is lost.
     pub fn fill<S: Source>(&mut self, source: &mut S) -> Result<bool, Failed>
         ensures more { IfOk result (λ more. more ≡ not (length self.new == 0)) }
-        ensures bytes { OnOk result (HandsOn self.old self.new (S.left source.old) (S.left source.new) (S.taken source.old) (S.taken source.new) []) }
-        ensures end { IfOk result (λ more. more ≡ false → IsDone self.new (S.left source.new)) }
+        ensures bytes { OnOk result (HandsOn self.old self.new (S.left source.old) (S.left source.new)
+            (S.taken source.old) (S.taken source.new) []) }
+        ensures end { IfOk result (λ more. more ≡ false → HasNothingLeft self.new (S.left source.new)) }
         ensures met_end { IfOk result (λ more. more ≡ false → SetsFlag (S.met_end source.old) (S.met_end source.new)) }
         ensures not_met { IfOk result (λ more. more ≡ true → KeepsFlag (S.met_end source.old) (S.met_end source.new)) }
         ensures written { Keeps (S.written source.old) (S.written source.new) }
         ensures never_falls { S.faults source.old ≤ S.faults source.new }
         ensures fault { IsErrOf result Failed.Fault → Rose (S.faults source.old) (S.faults source.new) }
         ensures none_counted { OnOk result (S.faults source.new ≡ S.faults source.old) }
+        ensures short { IsErrOf result Failed.Fault
+            → IsShort self.old self.new (S.left source.old) (S.left source.new) (S.taken source.old)
+            (S.taken source.new) 1 }
         ensures counted { S.faults source.new ≢ S.faults source.old → result ≡ Err Failed.Fault }
     {
         if !self.held.is_empty() {
@@ -77,15 +82,22 @@ impl BufferedReader {
 
     /// Hands on the next byte, None exactly at the end.
     pub fn next_byte<S: Source>(&mut self, source: &mut S) -> Result<Option<u8>, Failed>
-        ensures byte { IfOk result (λ next. IfSome next (λ b. HandsOn self.old self.new (S.left source.old) (S.left source.new) (S.taken source.old) (S.taken source.new) (b ∷ []))) }
-        ensures none { IfOk result (λ next. IfNone next (HandsOn self.old self.new (S.left source.old) (S.left source.new) (S.taken source.old) (S.taken source.new) [])) }
-        ensures end { IfOk result (λ next. IfNone next (IsDone self.new (S.left source.new))) }
+        ensures byte { IfOk result (λ next. IfSome next (λ b.
+            HandsOn self.old self.new (S.left source.old) (S.left source.new) (S.taken source.old) (S.taken source.new)
+            (b ∷ []))) }
+        ensures none { IfOk result (λ next. IfNone next (HandsOn self.old self.new (S.left source.old)
+            (S.left source.new) (S.taken source.old) (S.taken source.new) [])) }
+        ensures end { IfOk result (λ next. IfNone next (HasNothingLeft self.new (S.left source.new))) }
         ensures met_end { IfOk result (λ next. IfNone next (SetsFlag (S.met_end source.old) (S.met_end source.new))) }
-        ensures not_met { IfOk result (λ next. IfSome next (λ _. KeepsFlag (S.met_end source.old) (S.met_end source.new))) }
+        ensures not_met { IfOk result (λ next.
+            IfSome next (λ _. KeepsFlag (S.met_end source.old) (S.met_end source.new))) }
         ensures written { Keeps (S.written source.old) (S.written source.new) }
         ensures never_falls { S.faults source.old ≤ S.faults source.new }
         ensures fault { IsErrOf result Failed.Fault → Rose (S.faults source.old) (S.faults source.new) }
         ensures none_counted { OnOk result (S.faults source.new ≡ S.faults source.old) }
+        ensures short { IsErrOf result Failed.Fault
+            → IsShort self.old self.new (S.left source.old) (S.left source.new) (S.taken source.old)
+            (S.taken source.new) 1 }
         ensures counted { S.faults source.new ≢ S.faults source.old → result ≡ Err Failed.Fault }
     {
         if !self.fill(source)? {
@@ -101,14 +113,20 @@ impl BufferedReader {
     /// before a failure is lost.
     pub fn take<S: Source>(&mut self, source: &mut S, n: usize) -> Result<Bytes, Failed>
         ensures most { IfOk result (λ bytes. length bytes ≤ n) }
-        ensures bytes { IfOk result (λ bytes. HandsOn self.old self.new (S.left source.old) (S.left source.new) (S.taken source.old) (S.taken source.new) bytes) }
-        ensures end { IfOk result (λ bytes. length bytes < n → IsDone self.new (S.left source.new)) }
-        ensures met_end { IfOk result (λ bytes. length bytes < n → SetsFlag (S.met_end source.old) (S.met_end source.new)) }
-        ensures not_met { IfOk result (λ bytes. length bytes ≡ n → KeepsFlag (S.met_end source.old) (S.met_end source.new)) }
+        ensures bytes { IfOk result (λ bytes. HandsOn self.old self.new (S.left source.old) (S.left source.new)
+            (S.taken source.old) (S.taken source.new) bytes) }
+        ensures end { IfOk result (λ bytes. length bytes < n → HasNothingLeft self.new (S.left source.new)) }
+        ensures met_end { IfOk result (λ bytes. length bytes < n
+            → SetsFlag (S.met_end source.old) (S.met_end source.new)) }
+        ensures not_met { IfOk result (λ bytes. length bytes ≡ n
+            → KeepsFlag (S.met_end source.old) (S.met_end source.new)) }
         ensures written { Keeps (S.written source.old) (S.written source.new) }
         ensures never_falls { S.faults source.old ≤ S.faults source.new }
         ensures fault { IsErrOf result Failed.Fault → Rose (S.faults source.old) (S.faults source.new) }
         ensures none_counted { OnOk result (S.faults source.new ≡ S.faults source.old) }
+        ensures short { IsErrOf result Failed.Fault
+            → IsShort self.old self.new (S.left source.old) (S.left source.new) (S.taken source.old)
+            (S.taken source.new) n }
         ensures counted { S.faults source.new ≢ S.faults source.old → result ≡ Err Failed.Fault }
     {
         if n == 0 {
@@ -126,14 +144,20 @@ impl BufferedReader {
     // The next n bytes, gathered from pieces.
     fn gather<S: Source>(&mut self, source: &mut S, n: usize) -> Result<Bytes, Failed>
         ensures most { IfOk result (λ bytes. length bytes ≤ n) }
-        ensures bytes { IfOk result (λ bytes. HandsOn self.old self.new (S.left source.old) (S.left source.new) (S.taken source.old) (S.taken source.new) bytes) }
-        ensures end { IfOk result (λ bytes. length bytes < n → IsDone self.new (S.left source.new)) }
-        ensures met_end { IfOk result (λ bytes. length bytes < n → SetsFlag (S.met_end source.old) (S.met_end source.new)) }
-        ensures not_met { IfOk result (λ bytes. length bytes ≡ n → KeepsFlag (S.met_end source.old) (S.met_end source.new)) }
+        ensures bytes { IfOk result (λ bytes. HandsOn self.old self.new (S.left source.old) (S.left source.new)
+            (S.taken source.old) (S.taken source.new) bytes) }
+        ensures end { IfOk result (λ bytes. length bytes < n → HasNothingLeft self.new (S.left source.new)) }
+        ensures met_end { IfOk result (λ bytes. length bytes < n
+            → SetsFlag (S.met_end source.old) (S.met_end source.new)) }
+        ensures not_met { IfOk result (λ bytes. length bytes ≡ n
+            → KeepsFlag (S.met_end source.old) (S.met_end source.new)) }
         ensures written { Keeps (S.written source.old) (S.written source.new) }
         ensures never_falls { S.faults source.old ≤ S.faults source.new }
         ensures fault { IsErrOf result Failed.Fault → Rose (S.faults source.old) (S.faults source.new) }
         ensures none_counted { OnOk result (S.faults source.new ≡ S.faults source.old) }
+        ensures short { IsErrOf result Failed.Fault
+            → IsShort self.old self.new (S.left source.old) (S.left source.new) (S.taken source.old)
+            (S.taken source.new) n }
         ensures counted { S.faults source.new ≢ S.faults source.old → result ≡ Err Failed.Fault }
     {
         let mut bytes = Vec::with_capacity(self.alloc, n)?;

@@ -18,8 +18,11 @@ pub fn read_piece<S: Source>(alloc: Global, source: &mut S, most: usize) -> Resu
     ensures left { IfOk result (λ bytes. Consumes (S.left source.old) (S.left source.new) bytes) }
     ensures taken { IfOk result (λ bytes. Appends (S.taken source.old) (S.taken source.new) bytes) }
     ensures end { IfOk result (λ bytes. length bytes ≡ 0 → IsAtEnd (S.left source.new)) }
-    ensures met_end { IfOk result (λ bytes. MeetsEnd (S.met_end source.old) (S.met_end source.new) (Ok (length bytes))) }
+    ensures met_end { IfOk result (λ bytes. MeetsEnd (S.met_end source.old) (S.met_end source.new)
+        (Ok (length bytes))) }
     ensures written { Keeps (S.written source.old) (S.written source.new) }
+    ensures left_at_fault { IsErrOf result Failed.Fault → Keeps (S.left source.old) (S.left source.new) }
+    ensures taken_at_fault { IsErrOf result Failed.Fault → Keeps (S.taken source.old) (S.taken source.new) }
     ensures never_falls { S.faults source.old ≤ S.faults source.new }
     ensures fault { IsErrOf result Failed.Fault → Rose (S.faults source.old) (S.faults source.new) }
     ensures none_counted { OnOk result (S.faults source.new ≡ S.faults source.old) }

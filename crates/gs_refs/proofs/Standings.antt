@@ -10,7 +10,7 @@ use Rattle.gs_refs.specs.declared.entry.Entry.TheVariants.{Sent, Invalid, IdrAsk
 use Rattle.gs_refs.specs.declared.sent.Sent as out
 use Rattle.gs_refs.specs.History.{frames, tick_or_zero, tick_of, last_tick, is_valid, idr_is_owed, has_ended}
 use Rattle.gs_refs.specs.Answers.{sent_entry, next_sent, is_range_sent, named_range}
-use Rattle.gs_refs.specs.Candidates.{Kept, IsGreatestNamed}
+use Rattle.gs_refs.specs.Candidates.{KeptCandidates, IsGreatestNamed}
 use Rattle.gs_refs.specs.Choice.{Choice, names, idr, choice, re_entry, greatest_named, IsRange, IsLegal}
 use Rattle.gs_refs.specs.Standing.{KeepsCandidates, Stands, Chooses, chosen_sent, next_or_idr}
 use Rattle.gs_refs.specs.declared.candidate.Candidate.{Candidate}
@@ -24,15 +24,16 @@ pushed-reverse entries pushed e is = ap (λ (l : List Entry). reverse l) is ∙ 
 
 -- ---- entries
 
-keeps-asked : (h : List Entry) (candidates : Option Kept) → KeepsCandidates h candidates → KeepsCandidates (IdrAsked ∷ h) candidates
+keeps-asked : (h : List Entry) (candidates : Option KeptCandidates) → KeepsCandidates h candidates → KeepsCandidates (IdrAsked ∷ h) candidates
 keeps-asked h None none = none
 keeps-asked h (Some k) keeps = record { above = above-asked h k.watermark k.frames keeps.above; below = keeps.below }
 
-keeps-ended : (h : List Entry) (first last : ℤ) (candidates : Option Kept) → KeepsCandidates h candidates → KeepsCandidates (Ended first last ∷ h) candidates
+keeps-ended : (h : List Entry) (first last : ℤ) (candidates : Option KeptCandidates) → KeepsCandidates h candidates
+    → KeepsCandidates (Ended first last ∷ h) candidates
 keeps-ended h first last None none = none
 keeps-ended h first last (Some k) keeps = record { above = above-ended h first last k.watermark k.frames keeps.above; below = keeps.below }
 
-module _ (h : List Entry) (sent last : ℕ) (owed ended : Bool) (candidates : Option Kept) (stands : Stands h sent last owed ended candidates) where
+module _ (h : List Entry) (sent last : ℕ) (owed ended : Bool) (candidates : Option KeptCandidates) (stands : Stands h sent last owed ended candidates) where
   pub stands-asked : Stands (IdrAsked ∷ h) sent last true ended candidates
   stands-asked = record {
     count = stands.count;
@@ -53,12 +54,12 @@ module _ (h : List Entry) (sent last : ℕ) (owed ended : Bool) (candidates : Op
     kept = keeps-ended h first final candidates stands.kept;
   }
 
-  pub stands-invalid : (first final : ℕ) (candidates' : Option Kept) → KeepsCandidates (Invalid first final ∷ h) candidates'
+  pub stands-invalid : (first final : ℕ) (candidates' : Option KeptCandidates) → KeepsCandidates (Invalid first final ∷ h) candidates'
       → Stands (Invalid first final ∷ h) sent last owed ended candidates'
   stands-invalid first final candidates' keeps =
       record { count = stands.count; tick = stands.tick; owes = stands.owes; over = stands.over; rise = stands.rise; kept = keeps }
 
-  pub stands-sent : (s : out.Sent) (owed' : Bool) (candidates' : Option Kept) → s.frame ≡ frames h + 1 → last_tick h < s.tick
+  pub stands-sent : (s : out.Sent) (owed' : Bool) (candidates' : Option KeptCandidates) → s.frame ≡ frames h + 1 → last_tick h < s.tick
       → owed' ≡ (not (s.kind == 2) && owed) → KeepsCandidates (sent_entry s ∷ h) candidates' → Stands (sent_entry s ∷ h) s.frame s.tick owed' ended candidates'
   stands-sent s owed' candidates' e later owes keeps =
       let it = tick_of-sent h s.tick s.kind s.reference (frames h + 1) refl in
@@ -74,7 +75,7 @@ module _ (h : List Entry) (sent last : ℕ) (owed ended : Bool) (candidates : Op
   -- room is made for candidates
   pub stands-room : candidates ≡ None → Stands h sent last owed ended (Some (record { frames = []; watermark = 0 }))
   stands-room none =
-      let no_frame : frames h ≡ 0 = subst (λ (o : Option Kept). KeepsCandidates h o) none stands.kept in
+      let no_frame : frames h ≡ 0 = subst (λ (o : Option KeptCandidates). KeepsCandidates h o) none stands.kept in
       record {
         count = stands.count;
         tick = stands.tick;
@@ -86,7 +87,7 @@ module _ (h : List Entry) (sent last : ℕ) (owed ended : Bool) (candidates : Op
 
 -- ---- the choice
 
-tick_of-zero : (h : List Entry) → tick_of h 0 ≡ 0
+pub tick_of-zero : (h : List Entry) → tick_of h 0 ≡ 0
 tick_of-zero [] = refl
 tick_of-zero (Sent tick kind reference ∷ h) = ap tick_or_zero (sent_frame-before h tick kind reference 0 (λ e. omega (arith, e))) ∙ tick_of-zero h
 tick_of-zero (Invalid first last ∷ h) = tick_of-zero h
@@ -173,7 +174,7 @@ legal-named ticks h first last legal on = elim (cases_Bool (is_range_sent (frame
 
 -- ---- what the tests tell
 
-pub none-from : (o : Option Kept) → is_some o ≡ false → o ≡ None
+pub none-from : (o : Option KeptCandidates) → is_some o ≡ false → o ≡ None
 none-from None e = refl
 none-from (Some k) e = absurd (false≢true (sym e))
 

@@ -12,7 +12,7 @@ use Rattle.gs_refs.specs.declared.entry.Entry.TheVariants.{Sent, Invalid, IdrAsk
 use Rattle.gs_refs.specs.declared.candidate.Candidate.{Candidate}
 use Rattle.gs_refs.specs.History.{frames, tick_of, is_valid, IsValid}
 use Rattle.gs_refs.specs.Choice.{names}
-use Rattle.gs_refs.specs.Candidates.{Kept, NoneBetween, AreValidAbove, KeepsValid, frame_or, reaches_at, reaches, IsGreatestNamed}
+use Rattle.gs_refs.specs.Candidates.{KeptCandidates, NoneBetween, AreValidAbove, KeepsValid, frame_or, reaches_at, reaches, IsGreatestNamed}
 use Rattle.gs_refs.proofs.Choices.{valid_was_sent}
 use Rattle.gs_refs.proofs.Lookups.{tick_of-sent, tick_of-before}
 use Rattle.gs_refs.proofs.Greatest.{is_usable, NoneAbove, greatest-some, greatest-none}
@@ -191,7 +191,7 @@ last_by h low n (c ∷ cs) (Some d) all above count e =
       | inr other ↦ lt-leb n d.frame (omega (arith, sent.1, count)) ∙ sym (it.1 n (omega (arith, sent.1, count)))
     ]
 
-pub last-valid : (h : List Entry) (k : Kept) (n : ℕ) → KeepsValid h k → 1 ≤ n → n ≡ frames h → reaches n k.frames ≡ is_valid h n
+pub last-valid : (h : List Entry) (k : KeptCandidates) (n : ℕ) → KeepsValid h k → 1 ≤ n → n ≡ frames h → reaches n k.frames ≡ is_valid h n
 last-valid h k n keeps least count = last_by h k.watermark n k.frames (last_item k.frames) keeps.above (omega (arith, keeps.below, count)) count refl
 
 -- ---- a ring of them
@@ -281,7 +281,7 @@ below-pop h low first cs is all = by_last (last_item cs) refl
         (subst (λ (l : List Candidate). AreValidBelow h low first l) (popped cs c e) all)
 
 -- the frames from the first on were taken out
-pub dropped : (h : List Entry) (first last watermark : ℕ) (cs : List Candidate) (old : Kept) → KeepsValid h old → watermark ≡ old.watermark
+pub dropped : (h : List Entry) (first last watermark : ℕ) (cs : List Candidate) (old : KeptCandidates) → KeepsValid h old → watermark ≡ old.watermark
     → AreValidBelow h watermark first cs → reaches first cs ≡ false
     → KeepsValid (Invalid first last ∷ h) (record { frames = cs; watermark = min watermark (first - 1) })
 dropped h first last watermark cs old keeps same all short = record {
@@ -321,7 +321,8 @@ split-at (d ∷ ds) (suc i) c e =
     let next : suc i + 1 ≡ suc (i + 1) = omega arith in
     ap (λ (l : List Candidate). d ∷ l) (split-at ds i c e) ∙ sym (ap (λ (n : ℕ). d ∷ (take i ds ++ c ∷ drop n (d ∷ ds))) next)
 
-pub found-greatest : (h : List Entry) (t : Tick) (k : Kept) (i : ℕ) (c : Candidate) → KeepsValid h k → slice_get k.frames i ≡ Some c → names t c.tick ≡ true
+pub found-greatest : (h : List Entry) (t : Tick) (k : KeptCandidates) (i : ℕ) (c : Candidate) → KeepsValid h k → slice_get k.frames i ≡ Some c
+    → names t c.tick ≡ true
     → NoneNamed t (drop (i + 1) k.frames) → IsGreatestNamed h t (Some c)
 found-greatest h t k i c keeps at named none =
     let all = subst (λ (l : List Candidate). AreValidAbove h k.watermark l) (split-at k.frames i c at) keeps.above in
@@ -330,7 +331,7 @@ found-greatest h t k i c keeps at named none =
     let sent = valid_was_sent h c.frame valid in
     (greatest-some h t c.frame (frames h) sent.0 sent.1 found.1 found.2, found.0)
 
-pub found-none : (h : List Entry) (t : Tick) (k : Kept) → KeepsValid h k → k.watermark ≡ 0 → NoneNamed t k.frames → IsGreatestNamed h t None
+pub found-none : (h : List Entry) (t : Tick) (k : KeptCandidates) → KeepsValid h k → k.watermark ≡ 0 → NoneNamed t k.frames → IsGreatestNamed h t None
 found-none h t k keeps none_below none =
     greatest-none h t (frames h) (subst (λ (w : ℕ). NoneAbove h t w) none_below (none_above h t k.watermark k.frames keeps.above none))
 

@@ -8,7 +8,7 @@ use Rattle.gs_refs.specs.History.{frames, tick_of, is_valid, IsValid}
 use Rattle.gs_refs.specs.Choice.{greatest_named}
 
 -- frames, the oldest first, and the greatest that fell out of them
-pub record Kept : Type 0 where
+pub record KeptCandidates : Type 0 where
   pub frames : List Candidate
   pub watermark : ℕ
 
@@ -24,7 +24,7 @@ AreValidAbove h low (c ∷ cs) =
     × AreValidAbove h c.frame cs
 
 -- the valid frames above the watermark are kept, and the last frame is above it
-pub record KeepsValid (h : List Entry) (k : Kept) : Type 0 where
+pub record KeepsValid (h : List Entry) (k : KeptCandidates) : Type 0 where
   pub above : AreValidAbove h k.watermark k.frames
   pub below : k.watermark ≤ frames h - 1
 

@@ -6,19 +6,20 @@ use Rattle.gs_refs.specs.declared.chosen.Chosen.{Chosen}
 use Rattle.gs_refs.specs.declared.sent.Sent.{Sent}
 use Rattle.gs_refs.specs.History.{frames, tick_of, last_tick, idr_is_owed, has_ended}
 use Rattle.gs_refs.specs.Choice.{Choice, idr, names}
-use Rattle.gs_refs.specs.Candidates.{Kept, KeepsValid}
+use Rattle.gs_refs.specs.Candidates.{KeptCandidates, KeepsValid}
 
 -- there is room once the candidates have theirs
-abbrev pub spare_room : Option Kept → ℕ → ℕ → ℕ
+abbrev pub spare_room : Option KeptCandidates → ℕ → ℕ → ℕ
 spare_room candidates capacity length = if is_some candidates then capacity - length else 0
 
 -- before there is room, no frame was sent
-abbrev pub KeepsCandidates : List Entry → Option Kept → Type 0
+abbrev pub KeepsCandidates : List Entry → Option KeptCandidates → Type 0
 KeepsCandidates h None = frames h ≡ 0
 KeepsCandidates h (Some kept) = KeepsValid h kept
 
 -- the counts and flags are those of the history; each frame is from a later tick than the one before
-pub record Stands (h : List Entry) (sent last : ℕ) (owed ended : Bool) (candidates : Option Kept) : Type 0 where
+pub record Stands (h : List Entry) (sent last : ℕ) (owed ended : Bool)
+    (candidates : Option KeptCandidates) : Type 0 where
   pub count : sent ≡ frames h
   pub tick : last ≡ last_tick h
   pub owes : owed ≡ idr_is_owed h

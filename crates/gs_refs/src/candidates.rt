@@ -26,9 +26,9 @@ pub struct Candidates {
 
 impl Model for Candidates {
     ghost use Rattle.std.specs.Prelude.{◌≤◌, length};
-    ghost use Rattle.gs_refs.specs.Candidates.{Kept};
+    ghost use Rattle.gs_refs.specs.Candidates.{KeptCandidates};
 
-    ghost Value = { Kept };
+    ghost Value = { KeptCandidates };
 
     ghost view = { λ c. record { frames = c.ring.items; watermark = c.watermark } };
 

@@ -1,8 +1,10 @@
 //! The references of a session.
 
-ghost use Rattle.std.specs.Prelude.{◌≡◌, ◌+◌, ◌≤◌, ◌<◌, ◌↔◌, ℕ, List, [], ◌∷◌, Some, Err, reverse, true, false, IfOk, OnOk, OnErr};
+ghost use Rattle.std.specs.Prelude.{◌≡◌, ◌+◌, ◌≤◌, ◌<◌, ◌↔◌, ℕ, List, [], ◌∷◌, Some, Err, reverse, true, false, IfOk};
+ghost use Rattle.std.specs.Prelude.{OnOk, OnErr};
 ghost use Rattle.gs_tape.specs.Tick.{Tick, tick_numbered};
-ghost use Rattle.gs_refs.specs.Answers.{next_sent, sent_entry, choose_answer, is_range_sent, named_range, invalidate_answer, ask_answer};
+ghost use Rattle.gs_refs.specs.Answers.{next_sent, sent_entry, choose_answer, is_range_sent, named_range};
+ghost use Rattle.gs_refs.specs.Answers.{invalidate_answer, ask_answer};
 ghost use Rattle.gs_refs.specs.Choice.{IsLegal};
 ghost use Rattle.gs_refs.specs.History.{frames, last_tick, has_ended};
 ghost use Rattle.gs_refs.specs.declared.entry.Entry.TheVariants as entry;
@@ -96,7 +98,8 @@ impl Refs {
         // Else the choice is sent, and joins the history.
         ensures sent { IfOk result (λ sent. sent ≡ next_sent self.old.history tick.now) }
         ensures ok { IfOk result (λ sent. self.new.history ≡ sent_entry sent ∷ self.old.history) }
-        ensures legal { (ticks : List Tick) → tick_numbered ticks tick.now.number ≡ Some tick.now → IsLegal ticks self.old.history
+        ensures legal { (ticks : List Tick) → tick_numbered ticks tick.now.number ≡ Some tick.now
+            → IsLegal ticks self.old.history
             → IsLegal ticks self.new.history }
         ensures spare { self.old.spare ≤ self.new.spare + 1 }
     {

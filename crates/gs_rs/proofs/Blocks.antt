@@ -54,8 +54,8 @@ same_shards n len a b size_a size_b same =
     subst (λ m. get_or a m 0 ≡ get_or b m 0) at.2 (same (j / len) (j % len) at.0 at.1))
 
 -- one shard, byte by byte
-shard_length : (n len : ℕ) (shards : List ℕ) (i : ℕ) → length shards ≡ n * len → i < n → length (shard_of len shards i) ≡ len
-shard_length n len shards i size h =
+pub length-shard_of : (n len : ℕ) (shards : List ℕ) (i : ℕ) → length shards ≡ n * len → i < n → length (shard_of len shards i) ≡ len
+length-shard_of n len shards i size h =
     let room : i * len + len ≤ n * len = row_le n len i h in
     let rest : length (drop (i * len) shards) ≡ n * len - i * len = length-drop (i * len) shards ∙ ap (λ m. m - i * len) size in
     length-take-le len (drop (i * len) shards) (omega arith)
@@ -66,8 +66,8 @@ shard_at len shards i k d h = get_or-take len (drop (i * len) shards) k d h ∙ 
 pub same_shard : (n len : ℕ) (a b : List ℕ) (i : ℕ) → length a ≡ n * len → length b ≡ n * len → i < n
     → ((k : ℕ) → k < len → byte_at len a k i ≡ byte_at len b k i) → shard_of len a i ≡ shard_of len b i
 same_shard n len a b i size_a size_b h same =
-    ext_get_or 0 (shard_of len a i) (shard_of len b i) (shard_length n len a i size_a h ∙ sym (shard_length n len b i size_b h)) (λ k hk.
-    let below : k < len = omega (arith, shard_length n len a i size_a h) in
+    ext_get_or 0 (shard_of len a i) (shard_of len b i) (length-shard_of n len a i size_a h ∙ sym (length-shard_of n len b i size_b h)) (λ k hk.
+    let below : k < len = omega (arith, length-shard_of n len a i size_a h) in
     shard_at len a i k 0 below ∙ same k below ∙ sym (shard_at len b i k 0 below))
 
 pub bytes_of_same_shard : (len : ℕ) (a b : List ℕ) (i k : ℕ) → shard_of len a i ≡ shard_of len b i → k < len → byte_at len a k i ≡ byte_at len b k i

@@ -6,14 +6,13 @@ use Rattle.std.specs.List.{All, AllPairs, concat, find, slice_get, range_with_le
 use Rattle.std.proofs.Math.Seq.{take-append_seam, drop-append-add}
 use Rattle.std.proofs.lemmas.Bool.{cases_Bool, cond-true, cond-false, eqb-true, eqb-false}
 use Rattle.std.proofs.lemmas.Bool.Decides.{Decides-eqb}
-use Rattle.std.proofs.lemmas.List.{length-append, length-drop, length-map, length-take-le, get_or_append_left, get_or-map, ext_get_or}
+use Rattle.std.proofs.lemmas.List.{length-append, length-map, get_or_append_left, get_or-map, ext_get_or}
 use Rattle.std.proofs.lemmas.List.Elements.{All-from_recursion, All-nil, All-cons, All-append, All-map, All-contains, All-head, All-tail}
 use Rattle.std.proofs.lemmas.List.Folds.{concat-append}
 use Rattle.std.proofs.lemmas.List.FromFn.{length-map-range_with_len, get_or-map-range_with_len}
 use Rattle.std.proofs.lemmas.List.Kept.{AllPairs-cons}
 use Rattle.std.proofs.lemmas.Map.Made.{IsDistinct-from_AllPairs, is_member-Decides}
 use Rattle.std.proofs.lemmas.Map.Steps.{length-le_from_distinct_below}
-use Rattle.std.proofs.lemmas.Nat.{mul-le}
 use Rattle.std.proofs.lemmas.Option.{slice_get-get_or, slice_get_within, get_or_from_slice_get}
 use Rattle.std.proofs.lemmas.Simd.{map-map}
 use Rattle.gs_gf256.specs.Field.{IsByte, product, inverse, quotient, field_sum}
@@ -31,7 +30,7 @@ use Rattle.gs_rs.specs.Laws.{AreEnough}
 use Rattle.gs_rs.proofs.Points.{shape_of, IsByte-point, ArePoints-map, IsByte-denominator, denominator-ne-zero}
 use Rattle.gs_rs.proofs.Codewords.{word_byte}
 use Rattle.gs_rs.proofs.Rows.{byte_or_zero}
-use Rattle.gs_rs.proofs.Blocks.{column_at, shard_at, block_is_columns, data_alone, encoded}
+use Rattle.gs_rs.proofs.Blocks.{column_at, shard_at, block_is_columns, data_alone, encoded, length-shard_of}
 use Rattle.gs_rs.specs.Shards.{shard_byte, parity_shard, with_parity_shards, HeldShard, restored_byte, held_or_restored}
 use Rattle.gs_rs.specs.ShardLaws.{AreDataShards, AreOfBlock, HeldShardsHoldBlock, ShardsFormBlock, HeldShardsFixBlock}
 
@@ -256,7 +255,7 @@ map-same f g (x ∷ xs) same =
     cc
 
 -- what is found passes the test, and has what all have
-find-some : {X : Type 0} (test : X → Bool) (P : X → Type 0) (xs : List X) (x : X) → All P xs → find test xs ≡ Some x → (test x ≡ true) × P x
+pub find-some : {X : Type 0} (test : X → Bool) (P : X → Type 0) (xs : List X) (x : X) → All P xs → find test xs ≡ Some x → (test x ≡ true) × P x
 find-some test P [] x all e = cc
 find-some test P (y ∷ ys) x all e = elim (cases_Bool (test y)) [
   | inl passes ↦
@@ -331,12 +330,6 @@ restored_byte-is code size block held is block_is of_block i k in_i in_k =
     ∙ ap (λ (values : List ℕ). quotient (weighted_sum (map (point code) (map number_of held)) values x) (denominator code x)) values_are
     ∙ byte_by_others code (map number_of held) bytes i is (held_enough code size block held of_block) (words.columns k in_k) (omega arith)
     ∙ sym (byte_in_column code size block k i in_k (omega arith))
-
--- a shard of a block has the block's size
-length-shard_of : (n size : ℕ) (block : List ℕ) (i : ℕ) → length block ≡ n * size → i < n → length (shard_of size block i) ≡ size
-length-shard_of n size block i whole h =
-    let room : (i + 1) * size ≤ n * size = mul-le (i + 1) size n size (omega arith) (omega arith) in
-    length-take-le size (drop (i * size) block) (omega (arith, length-drop (i * size) block))
 
 -- where there is no parity, each data shard is held
 data_held : (code : CodeShape) (size : ℕ) (block : List ℕ) (held : List HeldShard) → code.parity ≡ 0 → AreOfBlock code size block held

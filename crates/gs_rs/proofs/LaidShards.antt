@@ -1,8 +1,8 @@
 -- Shards of one size, laid end to end.
 use Rattle.std.proofs.Common.{◌≡◌, ◌<◌, ◌≤◌, ◌+◌, ◌*◌, ℕ, zero, suc, List, [], ◌∷◌, ◌++◌, length, get_or, take, drop, refl, sym, ap, ◌∙◌, arith, inl}
 use Rattle.std.specs.List.{All, concat, range_with_len}
-use Rattle.std.proofs.Math.Seq.{take-suc, take-append_seam, drop-append-add, drop-nil}
-use Rattle.std.proofs.lemmas.List.{length-append, length-drop, append-nil, take_all, take-append-le, drop-append-le}
+use Rattle.std.proofs.Math.Seq.{take-suc, take-append_seam, drop-append-add}
+use Rattle.std.proofs.lemmas.List.{length-append, length-drop, append-nil, take_all, take-append-le, drop-append-le, take-take}
 use Rattle.std.proofs.lemmas.List.Elements.{All-head, All-tail}
 use Rattle.std.proofs.lemmas.List.Folds.{concat-append}
 use Rattle.std.proofs.lemmas.List.FromFn.{length-range_with_len, get_or-range_with_len}
@@ -11,33 +11,18 @@ use Rattle.std.proofs.lemmas.Slice.{take-put_mid}
 use Rattle.gs_rs.specs.declared.shape.CodeShape.{CodeShape}
 use Rattle.gs_rs.specs.Shape.{IsCode}
 use Rattle.gs_rs.specs.Codeword.{IsBlock, shard_of}
-use Rattle.gs_rs.specs.Laws.{AreEnough}
 use Rattle.gs_rs.specs.Shards.{with_parity_shards}
 use Rattle.gs_rs.specs.ShardLaws.{AreDataShards}
 use Rattle.gs_rs.proofs.Blocks.{enough_determine}
 use Rattle.gs_rs.proofs.HeldShards.{parity_shards, shards_form}
+use Rattle.gs_rs.proofs.Points.{data_enough}
 use borrow.Rule.Slice.PartMut.{put_mid}
 
 -- ---- what is dropped twice
 
-pub drop-twice : {X : Type 0} (m n : ℕ) (xs : List X) → drop m (drop n xs) ≡ drop (n + m) xs
-drop-twice m zero xs = ap (λ (k : ℕ). drop k xs) (omega arith)
-drop-twice m (suc n) [] =
-    let more : suc n + m ≡ suc (n + m) = omega arith in
-    drop-nil m ∙ ap (λ (k : ℕ). drop k []) (sym more)
-drop-twice m (suc n) (x ∷ xs) =
-    let more : suc n + m ≡ suc (n + m) = omega arith in
-    drop-twice m n xs ∙ ap (λ (k : ℕ). drop k (x ∷ xs)) (sym more)
-
-take-twice : {X : Type 0} (m n : ℕ) (xs : List X) → m ≤ n → take m (take n xs) ≡ take m xs
-take-twice zero n xs less = refl
-take-twice (suc m) zero xs less = absurd (omega arith)
-take-twice (suc m) (suc n) [] less = refl
-take-twice {X} (suc m) (suc n) (x ∷ xs) less = ap (λ (l : List X). x ∷ l) (take-twice m n xs (omega arith))
-
 -- a part of a front is a part of the whole
 pub take-inside : {X : Type 0} (at size n : ℕ) (xs : List X) → at + size ≤ n → take size (drop at (take n xs)) ≡ take size (drop at xs)
-take-inside zero size n xs within = take-twice size n xs (omega arith)
+take-inside zero size n xs within = take-take size n xs (omega arith)
 take-inside (suc at) size zero xs within = absurd (omega arith)
 take-inside (suc at) size (suc n) [] within = refl
 take-inside (suc at) size (suc n) (x ∷ xs) within = take-inside at size n xs (omega arith)
@@ -110,19 +95,6 @@ shard_of-front size n i front rest whole within =
     ap (take size) (drop-append-le (i * size) front rest (omega (arith, room, turned)))
     ∙ take-append-le size (drop (i * size) front) rest (omega (arith, room, turned, length-drop (i * size) front))
 
-data_numbers_enough : (code : CodeShape) → AreEnough code (range_with_len 0 code.data)
-data_numbers_enough code = record {
-  count = length-range_with_len 0 code.data;
-  in_range = λ i d h.
-      let is : get_or (range_with_len 0 code.data) i d ≡ 0 + i = get_or-range_with_len 0 code.data i d (omega (arith, length-range_with_len 0 code.data)) in
-      omega (arith, is, length-range_with_len 0 code.data);
-  distinct = λ i j d less h.
-      let size = length-range_with_len 0 code.data in
-      let first : get_or (range_with_len 0 code.data) i d ≡ 0 + i = get_or-range_with_len 0 code.data i d (omega (arith, size)) in
-      let second : get_or (range_with_len 0 code.data) j d ≡ 0 + j = get_or-range_with_len 0 code.data j d (omega (arith, size)) in
-      λ same. absurd (omega (arith, first, second, same));
-}
-
 -- the shards with this parity are those with the code's parity shards
 pub block-is : (code : CodeShape) (size : ℕ) (shards : List (List ℕ)) (parity : List ℕ) → IsCode code → AreDataShards code size shards
     → IsBlock code size (concat shards ++ parity) → concat shards ++ parity ≡ concat (with_parity_shards code size shards)
@@ -132,7 +104,7 @@ block-is code size shards parity is are block =
     let whole : length (concat shards) ≡ code.data * size = length-laid size shards are.sizes ∙ ap (λ (n : ℕ). n * size) count in
     let split = concat-append shards (parity_shards code size shards) in
     let numbers = range_with_len 0 code.data in
-    enough_determine code size numbers (concat shards ++ parity) (concat (with_parity_shards code size shards)) is (data_numbers_enough code) block made
+    enough_determine code size numbers (concat shards ++ parity) (concat (with_parity_shards code size shards)) is (data_enough code) block made
     (λ i d h.
     let n = get_or numbers i d in
     let within : n < code.data =

@@ -3,11 +3,9 @@ use Rattle.std.proofs.Common.{◌≡◌, ◌≢◌, ℕ, zero, suc, ◌+◌, ◌
 use Rattle.std.proofs.Common.{subst, arith, inl, inr}
 use Rattle.std.proofs.lemmas.Bool.{false≢true, cases_eq, cases_lt}
 use Rattle.std.proofs.lemmas.List.{get_or-set_same, get_or-set_other, get_or_past, length-set, length-take}
-use Rattle.std.proofs.lemmas.List.Sums.{sum_by-cons, count_by-le-length, count_by_more_yes, count_by_more_no}
+use Rattle.std.proofs.lemmas.List.Sums.{count_by-le-length, count_by_more_yes, count_by_more_no}
 use Rattle.gs_rs.specs.Restore.{IsPresent, count_present}
-
-count_cons : (p : Bool) (ps : List Bool) → count_present (p ∷ ps) ≡ cond p 1 0 + count_present ps
-count_cons p ps = sum_by-cons (λ (b : Bool). cond b 1 0) p ps
+use Rattle.gs_rs.proofs.Flags.{count-cons}
 
 -- a present shard counts below each later one
 rank_rises : (present : List Bool) (a b : ℕ) → a < b → IsPresent present a → count_present (take a present) + 1 ≤ count_present (take b present)
@@ -16,12 +14,12 @@ rank_rises (p ∷ ps) a zero less here = absurd (omega arith)
 rank_rises (p ∷ ps) zero (suc b) less here =
     let is_true : p ≡ true = here in
     let e : count_present (take (suc b) (p ∷ ps)) ≡ 1 + count_present (take b ps) =
-    count_cons p (take b ps) ∙ ap (λ q. cond q 1 0 + count_present (take b ps)) is_true in
+    count-cons p (take b ps) ∙ ap (λ q. cond q 1 0 + count_present (take b ps)) is_true in
     omega (arith, e)
 rank_rises (p ∷ ps) (suc a) (suc b) less here =
     let h = rank_rises ps a b (omega arith) here in
-    let ea : count_present (take (suc a) (p ∷ ps)) ≡ cond p 1 0 + count_present (take a ps) = count_cons p (take a ps) in
-    let eb : count_present (take (suc b) (p ∷ ps)) ≡ cond p 1 0 + count_present (take b ps) = count_cons p (take b ps) in
+    let ea : count_present (take (suc a) (p ∷ ps)) ≡ cond p 1 0 + count_present (take a ps) = count-cons p (take a ps) in
+    let eb : count_present (take (suc b) (p ∷ ps)) ≡ cond p 1 0 + count_present (take b ps) = count-cons p (take b ps) in
     omega arith
 
 pub rank_le : (present : List Bool) (n : ℕ) → count_present (take n present) ≤ n

@@ -1,13 +1,14 @@
 -- The laws of the two codes.
 use Rattle.std.specs.Prelude.{◌≡◌, ◌≢◌, ℕ, ◌+◌, ◌*◌, ◌<◌, ◌≤◌, ◌↔◌, List, length, All, AllPairs}
 use Rattle.gs_gf256.specs.Field.{IsByte}
+use Rattle.gs_rs.specs.Limits.{most_shards_of_code}
 use Rattle.gs_rs.specs.declared.shape.CodeShape.{CodeShape}
 use Rattle.gs_rs.specs.Shape.{shard_count, IsCode, video_code, audio_code, point, denominator}
 use Rattle.gs_rs.specs.Codeword.{IsBlock, IsCodeword, HasParityRows, column, shard_of}
 
 -- counts within the limits make a video code, and the audio code is one
 abbrev pub LimitsMakeCodes : Type 0
-LimitsMakeCodes = ((d p : ℕ) → 0 < d → d + p ≤ 255 → IsCode (video_code d p)) × IsCode audio_code
+LimitsMakeCodes = ((d p : ℕ) → 0 < d → d + p ≤ most_shards_of_code → IsCode (video_code d p)) × IsCode audio_code
 
 -- each shard stands at a byte, and no other shard stands there
 abbrev pub PointsAreDistinct : Type 0

@@ -3,6 +3,7 @@ use Rattle.std.specs.Prelude.{◌≡◌, ℕ, ◌+◌, ◌-◌, ◌<◌, ◌≤�
 use Rattle.std.specs.Prelude.{bit_xor}
 use Rattle.std.specs.List.{range_with_len}
 use Rattle.gs_gf256.specs.Field.{product, inverse}
+use Rattle.gs_rs.specs.Limits.{most_shards_of_code}
 use Rattle.gs_rs.specs.declared.shape.Form.TheVariants.{Video, Audio}
 use Rattle.gs_rs.specs.declared.shape.CodeShape.{CodeShape}
 
@@ -10,7 +11,7 @@ use Rattle.gs_rs.specs.declared.shape.CodeShape.{CodeShape}
 -- has four data shards and two parity shards
 pub record IsCode (code : CodeShape) : Type 0 where
   pub some_data : 0 < code.data
-  pub points_fit : code.data + code.parity ≤ 255
+  pub points_fit : code.data + code.parity ≤ most_shards_of_code
   pub audio_counts : code.form ≡ Audio → (code.data ≡ 4) × (code.parity ≡ 2)
 
 -- the video code of d data shards and p parity shards

@@ -1,9 +1,11 @@
 // The two codes that callers make.
 ghost use Rattle.std.specs.Prelude.{◌≡◌, ◌+◌, ◌<◌, ◌⊎◌, ◌↔◌, IsErr, IfOk};
 ghost use Rattle.gs_rs.specs.declared.shape.CodeShape.{CodeShape};
+ghost use Rattle.gs_rs.specs.Limits.{most_shards_of_code};
 ghost use Rattle.gs_rs.specs.Shape.{IsCode, video_code, audio_code};
 
-use crate::shape::{CodeShape, Form, MAX_SHARDS};
+use crate::limits::MAX_SHARDS;
+use crate::shape::{CodeShape, Form};
 use std::marker::Model;
 use thiserror::Error;
 
@@ -35,7 +37,7 @@ impl Model for Code {
 impl Code {
     /// The video code of `d` data shards and `p` parity shards.
     pub fn video(d: usize, p: usize) -> Result<Code, BadCounts>
-        ensures bad_counts { IsErr result ↔ ((d ≡ 0) ⊎ (255 < d + p)) }
+        ensures bad_counts { IsErr result ↔ ((d ≡ 0) ⊎ (most_shards_of_code < d + p)) }
         ensures code { IfOk result (λ code. code ≡ video_code d p) }
     {
         if d == 0 || d > MAX_SHARDS || p > MAX_SHARDS - d {

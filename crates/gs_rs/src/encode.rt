@@ -8,7 +8,8 @@ ghost use Rattle.gs_rs.specs.GroupRows.{RowsMade, row_value, HasRows};
 
 use crate::code::Code;
 use crate::group::{FEW_SHARDS, GROUP_LEN, MOST_ROWS, write_tables};
-use crate::shape::{CodeShape, MAX_SHARDS};
+use crate::limits::MAX_SHARDS;
+use crate::shape::CodeShape;
 use gs_gf256::{BLOCK_LEN, mul_add, sum_four, sum_two, write_block};
 
 impl Code {

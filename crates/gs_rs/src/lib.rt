@@ -26,6 +26,7 @@ mod code;
 mod encode;
 mod group;
 mod laws;
+mod limits;
 mod restore;
 mod shape;
 #[cfg(test)]
@@ -34,5 +35,6 @@ mod weights;
 
 pub use code::{BadCounts, Code};
 pub use laws::{code_laws, held_shards_hold_block};
+pub use limits::MAX_SHARDS;
 pub use restore::TooFew;
-pub use shape::{CodeShape, Form, MAX_SHARDS};
+pub use shape::{CodeShape, Form};

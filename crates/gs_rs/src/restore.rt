@@ -19,6 +19,7 @@ ghost use Rattle.std.specs.Prelude.{
   min,
 };
 ghost use Rattle.gs_gf256.specs.Field.{product, field_sum};
+ghost use Rattle.gs_rs.specs.Limits.{most_shards_of_code};
 ghost use Rattle.gs_rs.specs.Shape.{IsCode, shard_count};
 ghost use Rattle.gs_rs.specs.Restore.{
   IsPresent,
@@ -40,7 +41,8 @@ ghost use Rattle.gs_rs.specs.AbsentRows.{
 
 use crate::code::Code;
 use crate::group::{FEW_SHARDS, GROUP_LEN};
-use crate::shape::{CodeShape, MAX_SHARDS};
+use crate::limits::MAX_SHARDS;
+use crate::shape::CodeShape;
 use gs_gf256::{BLOCK_LEN, mul_add, sum_four, sum_two, write_block};
 use thiserror::Error;
 
@@ -76,7 +78,7 @@ impl Code {
 
 /// How many shards are present, up to a limit, and the numbers of these, lowest first.
 fn lowest_present(present: &[bool], limit: usize) -> (usize, [u8; MAX_SHARDS])
-    requires { length present.now ≤ 255 }
+    requires { length present.now ≤ most_shards_of_code }
     ensures count { result.0 ≡ min limit (count_present present.now) }
     ensures room { result.0 ≤ length result.1 }
     ensures numbers { AreLowestPresent present.now result.0 result.1 }
@@ -94,7 +96,7 @@ fn lowest_present(present: &[bool], limit: usize) -> (usize, [u8; MAX_SHARDS])
 
 /// How many of the data shards are absent, and their numbers, lowest first.
 fn absent_data(present: &[bool], limit: usize) -> (usize, [u8; MAX_SHARDS])
-    requires few { length present.now ≤ 255 }
+    requires few { length present.now ≤ most_shards_of_code }
     requires limit { limit ≤ length present.now }
     ensures room { result.0 ≤ length result.1 }
     ensures numbers { AreAllAbsent present.now limit result.0 result.1 }
@@ -145,7 +147,8 @@ impl CodeShape {
         requires shards_size { length shards.old ≡ shard_count self.now * len }
         requires enough { AreEnough self.now chosen.now }
         requires factors_size { self.now.data ≤ length factors.now }
-        requires factors { (i : ℕ) → i < self.now.data → slice_index factors.now i ≡ weight_factor self.now chosen.now i }
+        requires factors { (i : ℕ) → i < self.now.data
+            → slice_index factors.now i ≡ weight_factor self.now chosen.now i }
         requires absent { All (λ number. number < self.now.data) absent.now }
         requires others { AreOthers chosen.now absent.now }
         ensures within { result ≤ length absent.now }
@@ -178,7 +181,8 @@ impl CodeShape {
         requires block { BLOCK_LEN ≤ len }
         requires enough { AreEnough self.now chosen.now }
         requires factors_size { self.now.data ≤ length factors.now }
-        requires factors { (i : ℕ) → i < self.now.data → slice_index factors.now i ≡ weight_factor self.now chosen.now i }
+        requires factors { (i : ℕ) → i < self.now.data
+            → slice_index factors.now i ≡ weight_factor self.now chosen.now i }
         requires absent { All (λ number. number < self.now.data) absent.now }
         requires others { AreOthers chosen.now absent.now }
         requires tables_size { self.now.data * GROUP_LEN ≤ length tables.old }

@@ -8,6 +8,7 @@ ghost use Rattle.std.specs.Prelude.{
   take,
   length,
 };
+ghost use Rattle.gs_rs.specs.Limits.{most_shards_of_code};
 ghost use Rattle.gs_rs.specs.Shape.{
   IsCode,
   shard_count,
@@ -18,10 +19,8 @@ ghost use Rattle.gs_rs.specs.Shape.{
   differences,
 };
 
+use crate::limits::MAX_SHARDS;
 use gs_gf256::{exp, inv, log};
-
-/// The most shards that a block has: each stands at a point of its own, a byte.
-pub const MAX_SHARDS: usize = 255;
 
 const AUDIO_POINTS: [u8; 6] = [0, 1, 2, 4, 8, 16];
 
@@ -102,7 +101,7 @@ impl CodeShape {
 /// The product of `x xor y` over the points y other than x: the sum of their logarithms, and of 0 for x
 /// itself, so that no factor waits for the one before it.
 pub(crate) fn differences(points: &[u8], x: u8) -> u8
-    requires { length points.now ≤ 255 }
+    requires { length points.now ≤ most_shards_of_code }
     ensures { result ≡ differences points.now x }
 {
     let mut exponent = 0;

@@ -19,7 +19,8 @@ ghost use Rattle.gs_rs.specs.Laws.{AreEnough};
 ghost use Rattle.gs_rs.specs.AbsentRows.{weight_factor, shard_weight};
 
 use crate::group::{GROUP_LEN, MOST_ROWS, write_tables};
-use crate::shape::{CodeShape, MAX_SHARDS, differences};
+use crate::limits::MAX_SHARDS;
+use crate::shape::{CodeShape, differences};
 use gs_gf256::{inv, mul};
 
 impl CodeShape {
@@ -61,7 +62,8 @@ impl CodeShape {
         requires code { IsCode self.now }
         requires enough { AreEnough self.now chosen.now }
         requires factors_size { self.now.data ≤ length factors.now }
-        requires factors { (i : ℕ) → i < self.now.data → slice_index factors.now i ≡ weight_factor self.now chosen.now i }
+        requires factors { (i : ℕ) → i < self.now.data
+            → slice_index factors.now i ≡ weight_factor self.now chosen.now i }
         requires to_in { to < shard_count self.now }
         requires apart { All (λ number. number ≢ to) chosen.now }
         ensures { (i : ℕ) → i < self.now.data → slice_index result i ≡ shard_weight self.now chosen.now to i }
@@ -92,7 +94,8 @@ impl CodeShape {
         requires code { IsCode self.now }
         requires enough { AreEnough self.now chosen.now }
         requires factors_size { self.now.data ≤ length factors.now }
-        requires factors { (i : ℕ) → i < self.now.data → slice_index factors.now i ≡ weight_factor self.now chosen.now i }
+        requires factors { (i : ℕ) → i < self.now.data
+            → slice_index factors.now i ≡ weight_factor self.now chosen.now i }
         requires few_rows { length targets.now ≤ MOST_ROWS }
         requires targets_in { All (λ number. number < shard_count self.now) targets.now }
         requires apart { All (λ target. All (λ number. number ≢ target) chosen.now) targets.now }

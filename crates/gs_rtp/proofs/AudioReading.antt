@@ -2,12 +2,13 @@
 use Rattle.std.proofs.Common.{eq-eqb, ◌≡◌, ◌≢◌, if◌then◌else◌, ◌<◌, ◌+◌, ◌*◌, ◌/◌, ◌%◌, ◌^◌, ◌⊎◌, ℕ, Bool, true, false, List, [], ◌++◌, length, refl, ◌∙◌}
 use Rattle.std.proofs.Common.{arith, inl, inr}
 use Rattle.std.proofs.lemmas.Bool.Decides.{nat_tests}
-use Rattle.std.specs.Prelude.{◌==◌, ◌&&◌, not, nat_lt, slice_index}
+use Rattle.std.specs.Prelude.{◌==◌, ◌&&◌, nat_lt, slice_index}
 use Rattle.byteorder.specs.Endian.{big_from}
 use Rattle.byteorder.specs.Numbers.{big_number-reads_back}
 use Rattle.gs_rtp.specs.declared.audio.AudioHead.{AudioHead}
 use Rattle.gs_rtp.specs.Stream.{StreamSettings, AreSettingsWithinLimits}
 use Rattle.gs_rtp.specs.Audio.{block_units, block_parity, audio_header, unit_header, parity_header, is_time, IsAudioDatagram, ReadsBackAudio}
+use Rattle.gs_bytes.proofs.Cases.{not_zero}
 
 -- the time of a unit, and its number again
 unit_time : (d n : ℕ) → (d ≡ 5) ⊎ (d ≡ 10) → ((n * d) % (d * 1) ≡ 0) × (n * d / d ≡ n)
@@ -28,10 +29,6 @@ time_fits d n (inr e) few = rw e (omega arith)
 pass_three : (a b c : Bool) → a ≡ true → b ≡ true → c ≡ true → (a && b && c) ≡ true
 pass_three a b c x y z = rw (x, y, z) refl
 
--- the tests of the first two bytes and of the settings
-started : (audio : ℕ) → audio ≢ 0 → not (audio == 0) ≡ true
-started audio some = grind (arith, nat_tests)
-
 -- bytes with these fields are a unit's datagram
 unit-is : (settings : StreamSettings) (bytes : List ℕ) (n ssrc : ℕ) → AreSettingsWithinLimits settings → settings.audio ≢ 0 → n < 16777216
     → slice_index bytes 0 ≡ 128 → slice_index bytes 1 ≡ 97 → length bytes ≡ 12 + settings.audio
@@ -43,7 +40,7 @@ unit-is settings bytes n ssrc limits some few first kind whole time source =
     let on_time : is_time settings 1 (n * settings.duration) ≡ true =
     rw (times.0, times.1, in_time) refl in
     let long : (12 + settings.audio == 12 + settings.audio) ≡ true = eq-eqb (12 + settings.audio) (12 + settings.audio) refl in
-    rw (first, kind, whole, time, source, started settings.audio some, on_time, long, times.1) refl
+    rw (first, kind, whole, time, source, not_zero settings.audio some, on_time, long, times.1) refl
 
 -- bytes with these fields are a parity shard's datagram
 parity-is : (settings : StreamSettings) (bytes : List ℕ) (shard k ssrc : ℕ) → AreSettingsWithinLimits settings → settings.audio ≢ 0 → k * 4 < 16777216
@@ -59,7 +56,7 @@ parity-is settings bytes shard k ssrc limits some few small first kind whole num
     let long : (24 + settings.audio == 24 + settings.audio) ≡ true = eq-eqb (24 + settings.audio) (24 + settings.audio) refl in
     let is_small : nat_lt shard 2 ≡ true = grind (arith, nat_tests) in
     let back : k * 4 / 4 ≡ k = omega arith in
-    rw (first, kind, whole, number, time, source, started settings.audio some, on_time, long, is_small, times.1, back) refl
+    rw (first, kind, whole, number, time, source, not_zero settings.audio some, on_time, long, is_small, times.1, back) refl
 
 pub unit-reads_back : (settings : StreamSettings) (shard block ssrc : ℕ) (unit : List ℕ) → AreSettingsWithinLimits settings → settings.audio ≢ 0
     → shard < 4 → block * 4 < 16777216 → ssrc < 2 ^ 32 → length unit ≡ settings.audio

@@ -2,3 +2,4 @@ pub mod VideoHeads
 pub mod VideoReading
 mod Writes
 mod AudioReading
+pub mod AudioUnits

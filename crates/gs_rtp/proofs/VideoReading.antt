@@ -7,7 +7,7 @@ use Rattle.byteorder.specs.Endian.{big_from, little_from}
 use Rattle.byteorder.specs.Numbers.{big_number-reads_back, little_number-reads_back}
 use Rattle.gs_rtp.specs.declared.video.VideoHead.{VideoHead}
 use Rattle.gs_rtp.specs.Video.{IsVideoHead, is_video_head, FitsHeadTypes, block_byte, fec_info, video_header, short_video_header, fields_after, video_fields}
-use Rattle.gs_rtp.specs.Video.{is_video_datagram, IsVideoBytes, video_head}
+use Rattle.gs_rtp.specs.Video.{is_video, IsVideoBytes, video_head}
 use Rattle.gs_rtp.proofs.VideoHeads.{IsVideoHead-index}
 
 -- what the test of a head says
@@ -103,8 +103,8 @@ video_fields-short h payload fits grammar =
     (little_number-reads_back 4 (fec_info h) [] (fec_info-lt h fits grammar))
 
 -- what the test of a datagram says
-pub is_video_datagram-holds : (packet : ℕ) (bytes : List ℕ) → IsTrue (is_video_datagram packet bytes) → IsVideoBytes packet bytes
-is_video_datagram-holds packet bytes t =
+pub is_video-holds : (packet : ℕ) (bytes : List ℕ) → IsTrue (is_video packet bytes) → IsVideoBytes packet bytes
+is_video-holds packet bytes t =
     record {
       version = grind (arith, nat_tests);
       whole = grind (arith, nat_tests);
@@ -112,7 +112,7 @@ is_video_datagram-holds packet bytes t =
     }
 
 -- a datagram in the grammar passes the test
-pub IsVideoBytes-tests : (packet : ℕ) (bytes : List ℕ) → IsVideoBytes packet bytes → IsTrue (is_video_datagram packet bytes)
+pub IsVideoBytes-tests : (packet : ℕ) (bytes : List ℕ) → IsVideoBytes packet bytes → IsTrue (is_video packet bytes)
 IsVideoBytes-tests packet bytes h =
     let version = eq-eqb _ _ h.version in
     let whole = eq-eqb _ _ h.whole in
@@ -127,8 +127,8 @@ chosen false g h e = cc
 -- bytes with a head are in the grammar, and the head has their fields
 pub video_head-some : (packet : ℕ) (bytes : List ℕ) (h : VideoHead) → video_head packet bytes ≡ Some h → IsVideoBytes packet bytes × (video_fields bytes ≡ h)
 video_head-some packet bytes h e =
-    let taken = chosen (is_video_datagram packet bytes) (video_fields bytes) h e in
-    (is_video_datagram-holds packet bytes taken.0, taken.1)
+    let taken = chosen (is_video packet bytes) (video_fields bytes) h e in
+    (is_video-holds packet bytes taken.0, taken.1)
 
 -- bytes in the grammar have their fields as head
 pub video_head-of : (packet : ℕ) (bytes : List ℕ) → IsVideoBytes packet bytes → video_head packet bytes ≡ Some (video_fields bytes)

@@ -102,8 +102,8 @@ pub record IsVideoBytes (packet : ℕ) (bytes : List ℕ) : Type 0 where
   pub head : IsVideoHead (video_fields bytes)
 
 -- the test of `IsVideoBytes`
-abbrev pub is_video_datagram : ℕ → List ℕ → Bool
-is_video_datagram packet bytes =
+abbrev pub is_video : ℕ → List ℕ → Bool
+is_video packet bytes =
     slice_index bytes 0 / 2 ^ 6 == 2
     && length bytes == rtp_length bytes + packet
     && is_video_head (video_fields bytes)
@@ -111,7 +111,7 @@ is_video_datagram packet bytes =
 -- the head of a datagram, where its bytes are in the grammar
 abbrev pub video_head : ℕ → List ℕ → Option VideoHead
 video_head packet bytes =
-    if is_video_datagram packet bytes then Some (video_fields bytes) else None
+    if is_video packet bytes then Some (video_fields bytes) else None
 
 -- the bytes are a video datagram with this head
 abbrev pub IsVideoDatagram : ℕ → List ℕ → VideoHead → Type 0

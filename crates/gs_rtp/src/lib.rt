@@ -4,8 +4,8 @@
 //! and a header of the streaming protocol's own that places the datagram in its frame: its block, its
 //! number there, and how much data and parity the block has.
 //!
-//! An audio datagram has the same fixed header; behind it stands a unit, or twelve bytes that name a parity shard and its
-//! block, and that shard.
+//! An audio datagram has the same fixed header; behind it stands a unit, or twelve bytes that name a parity shard and
+//! its block, and that shard.
 //!
 //! `Settings::make` answers exactly within the limits, `write_video` and `write_audio` write the bytes that the grammar
 //! gives, and `read_video` and `read_audio` answer a head exactly where the bytes are in the grammar. The laws say that
@@ -23,9 +23,10 @@ pub use audio::{
     read_audio, write_audio,
 };
 pub use limits::{
-    AUDIO_BLOCK_PARITY, AUDIO_BLOCK_UNITS, AUDIO_UNITS_END, CODE_SHARDS_GREATEST, DURATION_LONG,
-    DURATION_SHORT, FPS_GREATEST, FPS_LEAST, FRAME_GREATEST, LAST_BLOCK_GREATEST, MINIMUM_GREATEST,
-    PACKET_GREATEST, PACKET_LEAST, PERCENTAGE_GREATEST, SHARDS_GREATEST, SSRC_GREATEST, SSRC_LEAST,
+    AUDIO_BLOCK_PARITY, AUDIO_BLOCK_UNITS, AUDIO_UNITS_END, BLOCKS_GREATEST, DATAGRAM_GREATEST,
+    FPS_GREATEST, FPS_LEAST, FRAME_GREATEST, LAST_BLOCK_GREATEST, MINIMUM_GREATEST,
+    PACKET_GREATEST, PACKET_LEAST, PERCENTAGE_GREATEST, RTP_HEADER_LENGTH, SHARDS_GREATEST,
+    SSRC_GREATEST, SSRC_LEAST,
 };
 pub use settings::Settings;
 pub use video::{

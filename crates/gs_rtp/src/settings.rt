@@ -1,15 +1,16 @@
 // What host and client agree on before a stream begins.
 
 ghost use Rattle.std.specs.Prelude.{◌≡◌, ◌≤◌, ◌↔◌, ◌||◌, ◌==◌, IsTrue, IsSome, IfSome};
-ghost use Rattle.gs_bytes.specs.Limits.{most_audio};
-ghost use Rattle.gs_rtp.specs.Limits.{least_packet, most_packet, most_percentage, most_minimum, least_fps, most_fps, short_duration, long_duration, least_ssrc, most_ssrc};
-ghost use Rattle.gs_rtp.specs.Settings.{AreNumbersOfSettings};
+ghost use Rattle.gs_bytes.specs.Limits.{most_audio, short_duration, long_duration};
+ghost use Rattle.gs_rtp.specs.Limits.{least_packet, most_packet, most_percentage, most_minimum, least_fps, most_fps};
+ghost use Rattle.gs_rtp.specs.Limits.{least_ssrc, most_ssrc};
+ghost use Rattle.gs_rtp.specs.Settings.{AreSettingsWithinLimits};
 
 use crate::limits::{
-    DURATION_LONG, DURATION_SHORT, FPS_GREATEST, FPS_LEAST, MINIMUM_GREATEST, PACKET_GREATEST,
-    PACKET_LEAST, PERCENTAGE_GREATEST, SSRC_GREATEST, SSRC_LEAST,
+    FPS_GREATEST, FPS_LEAST, MINIMUM_GREATEST, PACKET_GREATEST, PACKET_LEAST, PERCENTAGE_GREATEST,
+    SSRC_GREATEST, SSRC_LEAST,
 };
-use gs_bytes::MOST_AUDIO;
+use gs_bytes::{DURATION_LONG, DURATION_SHORT, MOST_AUDIO};
 
 /// The settings of a session's stream.
 #[derive(Clone, Copy, Debug, PartialEq, Eq)]
@@ -51,7 +52,15 @@ impl Settings {
         audio: u16,
         ssrc: u32,
     ) -> Option<Settings>
-        ensures within { IsSome result ↔ AreNumbersOfSettings packet percentage minimum fps duration audio ssrc }
+        ensures within { IsSome result ↔ AreSettingsWithinLimits (record {
+          packet = packet;
+          percentage = percentage;
+          minimum = minimum;
+          fps = fps;
+          duration = duration;
+          audio = audio;
+          ssrc = ssrc;
+        }) }
         ensures packet { IfSome result (λ s. s.packet ≡ packet) }
         ensures percentage { IfSome result (λ s. s.percentage ≡ percentage) }
         ensures minimum { IfSome result (λ s. s.minimum ≡ minimum) }

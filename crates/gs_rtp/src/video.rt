@@ -17,9 +17,10 @@ ghost use Rattle.gs_rtp.specs.Video.{
   video_header,
 };
 
-use crate::limits::{CODE_SHARDS_GREATEST, FRAME_GREATEST, LAST_BLOCK_GREATEST, SHARDS_GREATEST};
+use crate::limits::{FRAME_GREATEST, LAST_BLOCK_GREATEST, SHARDS_GREATEST};
 use crate::number::{big_u16, big_u32, little_u32};
 use byteorder::{BigEndian, ByteOrder, LittleEndian};
+use gs_rs::MAX_SHARDS;
 
 /// The length of the header that `write_video` writes.
 pub const VIDEO_HEADER_LENGTH: usize = 32;
@@ -73,37 +74,40 @@ const INDEX_MASK: u32 = 0x3FF;
 
 const PERCENTAGE_MASK: u32 = 0xFF;
 
-// In the first byte, the first bit of the RTP version, and the bit that says that reserved bytes follow the fixed header.
+// In the first byte, the first bit of the RTP version, and the bit that says that reserved bytes follow the fixed
+// header.
 const VERSION_BIT: u32 = 6;
 
 const EXTENDED_BIT: u32 = 4;
 
-/// The fields of a video datagram's header.
+/// The fields of a video datagram's header. Beside each that isn't named so stands the protocol's own name.
 #[derive(Clone, Copy, Debug, PartialEq, Eq)]
 pub struct VideoHead {
-    /// The RTP sequence number.
+    /// The RTP sequence number (`sequenceNumber`).
     pub sequence: u16,
     /// The RTP timestamp, in units of 1/90,000 s.
     pub timestamp: u32,
     /// The RTP synchronization source, which is the session's number.
     pub ssrc: u32,
-    /// The number of the datagram in its stream, 256 a datagram.
+    /// The number of the datagram in its stream, 256 a datagram (`streamPacketIndex`).
     pub stream_index: u32,
-    /// The frame, from 1.
+    /// The frame, 1 to 1,048,576 (`frameIndex`).
     pub frame: u32,
     /// 0x1 picture data, 0x2 end of the block's data, 0x4 its start.
     pub flags: u8,
+    /// `extraFlags`: a host writes 0, and a client gives it no weight.
     pub extra: u8,
+    /// `multiFecFlags`: a host writes 0x10, and a client gives it no weight.
     pub multi_flags: u8,
-    /// The block of the frame, from 0.
+    /// The block of the frame, from 0 (bits 4 and 5 of `multiFecBlocks`).
     pub block: u8,
-    /// The last block of the frame.
+    /// The last block of the frame, 0 to 3 (bits 6 and 7 of `multiFecBlocks`).
     pub last_block: u8,
-    /// How many data shards the block has.
+    /// How many data shards the block has, from 1 (`fecInfo` from bit 22 on).
     pub shards: u16,
-    /// The number of this shard: the data shards come first, then the parity shards.
+    /// The number of this shard, from 0: the data shards come first, then the parity shards (`fecInfo` from bit 12 on).
     pub index: u16,
-    /// The percentage from which the block's parity shards are counted.
+    /// The percentage from which the block's parity shards are counted (`fecInfo` from bit 4 on).
     pub percentage: u8,
 }
 
@@ -157,7 +161,7 @@ fn is_in_grammar(head: &VideoHead) -> bool
         && last_block <= LAST_BLOCK_GREATEST
         && (1..=SHARDS_GREATEST).contains(&shards)
         && u32::from(index) < all
-        && (percentage == 0 || all <= CODE_SHARDS_GREATEST)
+        && (percentage == 0 || all <= MAX_SHARDS as u32)
 }
 
 // The length of the RTP part, by its first byte.
@@ -219,9 +223,10 @@ fn fields_at(bytes: &[u8], start: usize) -> VideoHead
     }
 }
 
-/// Reads the header of a video datagram of a stream with this packet size, in bytes. `None` exactly where the bytes
-/// aren't in the grammar: RTP version 2, with or without the four reserved bytes, a length of the RTP part and the
-/// packet size, and a head within the limits.
+/// Reads the header of a video datagram of a stream with this packet size, in bytes, 16 or more. `None` exactly where
+/// the bytes aren't in the grammar: RTP version 2, a length of the RTP part and the packet size, and a head within the
+/// limits. The RTP part has 16 bytes where bit 0x10 of the first byte says that four reserved bytes end it, which are
+/// ignored, and else 12.
 pub fn read_video(bytes: &[u8], packet: u16) -> Option<VideoHead>
     requires packet_size { 16 ≤ packet }
     ensures { result ≡ video_head packet bytes.now }

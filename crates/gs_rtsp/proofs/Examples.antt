@@ -13,9 +13,9 @@ use Rattle.gs_rtsp.specs.declared.field.Field.TheVariants as fields
 use Rattle.gs_rtsp.specs.declared.step.Fault.{Fault}
 use Rattle.gs_rtsp.specs.declared.step.Fault.TheVariants as faults
 use Rattle.gs_rtsp.specs.declared.stream.Stream.TheVariants.{Video, Control}
-use Rattle.gs_rtsp.specs.Fields.{field_text, field_number, counted, padded, padded_number}
+use Rattle.gs_rtsp.specs.Fields.{field_text, field_number, counted_part, padded, padded_number}
 use Rattle.gs_rtsp.specs.Reply.{reply, description, answer_to, stream_in}
-use Rattle.gs_rtsp.specs.Asking.{announcement, agreed, first_fault, next_request}
+use Rattle.gs_rtsp.specs.Asking.{announcement, agreed, first_reply_fault, next_request}
 
 -- ---- spellings
 
@@ -41,7 +41,7 @@ sequence_read : map (field_number fields.Sequence) (codes "0" ∷ codes "10" ∷
 unfolding padded_number
 sequence_read = refl
 
-counted_to : counted fields.Session (codes " DEADBEEF0007 ;timeout = 90") ≡ codes "DEADBEEF0007"
+counted_to : counted_part fields.Session (codes " DEADBEEF0007 ;timeout = 90") ≡ codes "DEADBEEF0007"
 counted_to = refl
 
 first_word : map stream_in (codes "x/streamid=video/streamid=audio" ∷ codes "streamid=control/1/0" ∷ codes "streamid=" ∷ []) ≡ Some Video ∷ Some Control
@@ -203,7 +203,7 @@ agreed_on : agreed want (talk 7).replies ≡ record { packet = 1392; percentage 
 unfolding offer want answer_to padded padded_number digits description announcement
 agreed_on = refl
 
-faultless : first_fault want host (talk 7).replies ≡ None
+faultless : first_reply_fault want host (talk 7).replies ≡ None
 unfolding offer want answer_to padded padded_number digits description announcement
 faultless = refl
 
@@ -229,19 +229,19 @@ response code headers body = record { code = code; headers = headers; body = bod
 abbrev numbered : List ℕ → List Header → List Header
 numbered n hs = header (codes "CSeq") n ∷ hs
 
-refused : first_fault want host (response 503 [] [] ∷ []) ≡ Some (faults.Refused 503)
+refused : first_reply_fault want host (response 503 [] [] ∷ []) ≡ Some (faults.Refused 503)
 unfolding want padded_number
 refused = refl
 
-no_sequence : first_fault want host (response 200 [] [] ∷ []) ≡ Some (faults.BadReply 1)
+no_sequence : first_reply_fault want host (response 200 [] [] ∷ []) ≡ Some (faults.BadReply 1)
 unfolding want padded_number
 no_sequence = refl
 
-other_sequence : first_fault want host (response 200 (numbered (codes "2") []) [] ∷ []) ≡ Some (faults.BadReply 1)
+other_sequence : first_reply_fault want host (response 200 (numbered (codes "2") []) [] ∷ []) ≡ Some (faults.BadReply 1)
 unfolding want padded_number
 other_sequence = refl
 
-no_duration : first_fault want host (response 200 (numbered (codes "2") []) (codes "a=x-gs-audio.length:240\r\n")
+no_duration : first_reply_fault want host (response 200 (numbered (codes "2") []) (codes "a=x-gs-audio.length:240\r\n")
     ∷ response 200 (numbered (codes "1") []) [] ∷ []) ≡ Some (faults.BadReply 2)
 unfolding want padded_number
 no_duration = refl
@@ -256,7 +256,7 @@ parts session port payload = numbered (codes "3") (header (codes "Session") sess
     ∷ header (codes "X-SS-Ping-Payload") payload ∷ [])
 
 abbrev third : List ℕ → List ℕ → List ℕ → Option Fault
-third session port payload = first_fault want host (response 200 (parts session port payload) [] ∷ two)
+third session port payload = first_reply_fault want host (response 200 (parts session port payload) [] ∷ two)
 
 good_third : third (codes "DEADBEEF0012;timeout = 90") (codes "server_port=48000") (codes "0000000000000012") ≡ None
 unfolding want padded_number
@@ -274,6 +274,6 @@ no_number : third (codes "DEADBEEF0000;timeout = 90") (codes "server_port=48000"
 unfolding want padded_number
 no_number = refl
 
-first_stays : first_fault want host (response 200 [] [] ∷ response 404 [] [] ∷ response 200 [] [] ∷ two) ≡ Some (faults.BadReply 3)
+first_stays : first_reply_fault want host (response 200 [] [] ∷ response 404 [] [] ∷ response 200 [] [] ∷ two) ≡ Some (faults.BadReply 3)
 unfolding want padded_number
 first_stays = refl

@@ -6,7 +6,7 @@ use Rattle.std.proofs.lemmas.Fmt.{length-decimal-le}
 use Rattle.gs_rtp.specs.declared.settings.Settings.{Settings}
 use Rattle.gs_sdp.specs.declared.attributes.SettingName.TheVariants.{PacketSize, MaxFps, Minimum, Duration}
 use Rattle.gs_sdp.specs.Lines.{line_text}
-use Rattle.gs_sdp.specs.Table.{name_of}
+use Rattle.gs_sdp.specs.Table.{setting_name}
 use Rattle.gs_rtp.specs.Stream.{StreamSettings}
 use Rattle.gs_rtsp.specs.Reply.{description}
 use Rattle.gs_rtsp.specs.Asking.{announcement}
@@ -20,7 +20,7 @@ length_line name value = simp length-append (omega arith)
 pub length_description : (offer : Settings) → length (description offer) ≤ 100
 unfolding description
 length_description offer =
-    let first = line_text (name_of Duration) (decimal offer.duration) in
+    let first = line_text (setting_name Duration) (decimal offer.duration) in
     let second = line_text (codes "x-gs-audio.length") (decimal offer.audio) in
     let short : offer.duration ≤ 10 = grind (arith, nat_tests, offer.duration_known) in
     let duration : offer.duration < 10 ^ 5 = omega arith in
@@ -28,7 +28,7 @@ length_description offer =
     omega (
       arith,
       length-append first second,
-      length_line (name_of Duration) (decimal offer.duration),
+      length_line (setting_name Duration) (decimal offer.duration),
       length_line (codes "x-gs-audio.length") (decimal offer.audio),
       short_decimal offer.duration duration,
       short_decimal offer.audio audio,
@@ -38,19 +38,19 @@ pub length_announcement : (s : StreamSettings) → s.packet < 10 ^ 5 → s.fps <
     → length (announcement s) ≤ 200
 unfolding announcement
 length_announcement s packet fps minimum duration =
-    let a = line_text (name_of PacketSize) (decimal s.packet) in
-    let b = line_text (name_of MaxFps) (decimal s.fps) in
-    let c = line_text (name_of Minimum) (decimal s.minimum) in
-    let d = line_text (name_of Duration) (decimal s.duration) in
+    let a = line_text (setting_name PacketSize) (decimal s.packet) in
+    let b = line_text (setting_name MaxFps) (decimal s.fps) in
+    let c = line_text (setting_name Minimum) (decimal s.minimum) in
+    let d = line_text (setting_name Duration) (decimal s.duration) in
     omega (
       arith,
       length-append (a ++ b ++ c) d,
       length-append (a ++ b) c,
       length-append a b,
-      length_line (name_of PacketSize) (decimal s.packet),
-      length_line (name_of MaxFps) (decimal s.fps),
-      length_line (name_of Minimum) (decimal s.minimum),
-      length_line (name_of Duration) (decimal s.duration),
+      length_line (setting_name PacketSize) (decimal s.packet),
+      length_line (setting_name MaxFps) (decimal s.fps),
+      length_line (setting_name Minimum) (decimal s.minimum),
+      length_line (setting_name Duration) (decimal s.duration),
       short_decimal s.packet packet,
       short_decimal s.fps fps,
       short_decimal s.minimum minimum,

@@ -23,7 +23,8 @@ use Rattle.gs_rtsp.specs.declared.field.Field.TheVariants.{Session, Port, Conten
 use Rattle.gs_rtsp.specs.declared.stream.Stream.{Stream}
 use Rattle.gs_rtsp.specs.declared.stream.Stream.TheVariants.{Audio, Video, Control}
 use Rattle.gs_rtsp.specs.Fields.{field_text, field_header, port_of, data_field}
-use Rattle.gs_rtsp.specs.Reply.{Answer, Unchanged, Described, SetUp, Announced, Playing, Refused, code_of, repeated_sequence, session_header, stream_headers}
+use Rattle.gs_rtsp.specs.Reply.{Answer, Unchanged, Described, SetUp, Announced, Playing, Refused, status_code, repeated_sequence, session_header}
+use Rattle.gs_rtsp.specs.Reply.{stream_headers}
 use Rattle.gs_rtsp.specs.Reply.{description, response_by}
 use Rattle.gs_rtsp.specs.Verdicts.{is_answered_code}
 use Rattle.gs_rtsp.proofs.Lengths.{length_description}
@@ -184,7 +185,7 @@ stream_parts session base stream r n ls lb =
 streams : (offer : Settings) (base : ℕ) (stream : Stream) (r : Request) → Repeated r → base ≤ 65000 → IsSendableBy offer base r (SetUp stream)
 streams offer base stream r n lb = record { code = inl refl; headers = stream_parts offer.ssrc base stream r n offer.ssrc_greatest lb }
 
-by_answer : (offer : Settings) (base : ℕ) (r : Request) (answer : Answer) → is_answered_code (code_of answer) ≡ true → base ≤ 65000 → Repeated r
+by_answer : (offer : Settings) (base : ℕ) (r : Request) (answer : Answer) → is_answered_code (status_code answer) ≡ true → base ≤ 65000 → Repeated r
     → IsSendableBy offer base r answer
 by_answer offer base r Unchanged e lb n = plain offer base r 200 refl n
 by_answer offer base r Described e lb n = described offer base r n
@@ -193,7 +194,7 @@ by_answer offer base r Announced e lb n = plain offer base r 200 refl n
 by_answer offer base r Playing e lb n = plain offer base r 200 refl n
 by_answer offer base r (Refused c) e lb n = plain offer base r c e n
 
-pub is_sendable : (offer : Settings) (base : ℕ) (r : Request) (answer : Answer) (bytes : List ℕ) → is_answered_code (code_of answer) ≡ true → base ≤ 65000
+pub is_sendable : (offer : Settings) (base : ℕ) (r : Request) (answer : Answer) (bytes : List ℕ) → is_answered_code (status_code answer) ≡ true → base ≤ 65000
     → IsRequest bytes r → IsSendableBy offer base r answer
 is_sendable offer base r answer bytes e lb q =
     let some : 0 < cseq_count r.headers = grind (arith, nat_tests, q.is_head.sequence) in

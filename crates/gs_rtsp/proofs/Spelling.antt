@@ -9,7 +9,7 @@ use Rattle.std.proofs.lemmas.List.{length-replicate}
 use Rattle.std.proofs.lemmas.Slice.Eq.{starts_is}
 use Rattle.gs_bytes.specs.Numbers.{is_decimal, number_of, decimal_up_to}
 use Rattle.gs_bytes.proofs.Decimals.{decimal_is_decimal, decimal_is_printed, decimal_up_to-decimal}
-use Rattle.gs_sdp.specs.Lines.{behind}
+use Rattle.gs_sdp.specs.Lines.{behind_prefix}
 use Rattle.gs_rtsp.specs.declared.field.Field.{Field}
 use Rattle.gs_rtsp.specs.declared.field.Field.TheVariants.{Sequence, ClientVersion, Session, Port, PingPayload, ConnectData, ContentLength}
 use Rattle.gs_rtsp.specs.Fields.{field_prefix, field_text, field_number, least_digits, padded, padded_number, unpadded, without_zeros}
@@ -141,7 +141,7 @@ padded_back least n ds h = by_tests (ltb (length ds) least) (eqb (length ds) lea
 
 -- ---- behind a prefix
 
-behind_back : (p s rest : List ℕ) → behind p s ≡ Some rest → s ≡ p ++ rest
+behind_back : (p s rest : List ℕ) → behind_prefix p s ≡ Some rest → s ≡ p ++ rest
 behind_back p s rest h = by_test (starts_with nat_eq s p) refl h
   where
     by_test : (t : Bool) → starts_with nat_eq s p ≡ t → cond t (Some (drop (length p) s)) None ≡ Some rest → s ≡ p ++ rest
@@ -164,9 +164,9 @@ written_is_read f n lt = read_behind f (padded (least_digits f) n) ∙ padded_re
 
 -- what is read was written
 pub read_was_written : (f : Field) (n : ℕ) (value : List ℕ) → field_number f value ≡ Some n → value ≡ field_text f n
-read_was_written f n value h = by_rest (behind (field_prefix f) value) refl h
+read_was_written f n value h = by_rest (behind_prefix (field_prefix f) value) refl h
   where
-    by_rest : (o : Option (List ℕ)) → behind (field_prefix f) value ≡ o → option_and_then (padded_number (least_digits f)) o ≡ Some n
+    by_rest : (o : Option (List ℕ)) → behind_prefix (field_prefix f) value ≡ o → option_and_then (padded_number (least_digits f)) o ≡ Some n
         → value ≡ field_text f n
     by_rest None e k = absurd (cc)
     by_rest (Some digits) e k = behind_back (field_prefix f) value digits e

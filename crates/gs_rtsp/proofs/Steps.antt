@@ -9,7 +9,7 @@ use Rattle.gs_rtsp_text.specs.declared.message.Response.{Response}
 use Rattle.gs_rtsp.specs.declared.setup.Setup.{Setup}
 use Rattle.gs_rtsp.specs.declared.step.Step.{Step}
 use Rattle.gs_rtsp.specs.declared.step.Step.TheVariants.{Ask, Ready}
-use Rattle.gs_rtsp.specs.Asking.{questions, agreed, first_fault, request_for, IsNextAnswer, with_reply}
+use Rattle.gs_rtsp.specs.Asking.{questions, agreed, first_reply_fault, request_for, IsNextAnswer, with_reply}
 use Rattle.gs_rtsp.specs.Standing.{Asks, IsStepAfter}
 
 -- as many requests were asked as there are replies, once the last one came
@@ -33,7 +33,7 @@ asked_is setup want host replies (Some r) e f a = by_count (a.asked f)
     by_count (inr h) = h
 
 pub next_is : (setup : Setup) (want : Settings) (host : Addr) (replies : List Response) (s : Settings) (step : Step) → setup.host ≡ host
-    → setup.asked ≡ length replies → first_fault want host replies ≡ None → numbers_of s ≡ agreed want replies → IsStepAfter setup.host setup.asked s step
+    → setup.asked ≡ length replies → first_reply_fault want host replies ≡ None → numbers_of s ≡ agreed want replies → IsStepAfter setup.host setup.asked s step
     → IsNextAnswer want host replies (Ok step)
 next_is setup want host replies s (Ask request) eh ea f en h =
     let same : option_map (request_for host (agreed want replies) (length replies + 1)) (slice_get questions (length replies)) ≡ Some request =

@@ -3,8 +3,8 @@ use Rattle.std.specs.Prelude.{◌≡◌, ℕ, ◌+◌, ◌-◌, ◌/◌, ◌%◌
 use Rattle.std.specs.Prelude.{◌∷◌, ◌++◌, length, codes, decimal, Option, Some, None, is_some, unwrap_or, option_map}
 use Rattle.std.specs.Prelude.{option_and_then, slice_get, Result, Ok, Err, if◌then◌else◌, ⊤}
 use Rattle.gs_bytes.specs.declared.addr.Addr.{Addr}
-use Rattle.gs_bytes.specs.Limits.{most_audio}
-use Rattle.gs_rtp.specs.Limits.{short_duration, long_duration, least_ssrc, most_ssrc}
+use Rattle.gs_bytes.specs.Limits.{most_audio, short_duration, long_duration}
+use Rattle.gs_rtp.specs.Limits.{least_ssrc, most_ssrc}
 use Rattle.gs_rtp.specs.declared.settings.Settings.{Settings}
 use Rattle.gs_rtp.specs.Stream.{StreamSettings, numbers_of}
 use Rattle.gs_rtsp_text.specs.declared.header.Header.{Header}
@@ -15,7 +15,7 @@ use Rattle.gs_rtsp_text.specs.declared.message.Response.{Response}
 use Rattle.gs_bytes.specs.Numbers.{decimal_up_to}
 use Rattle.gs_sdp.specs.declared.attributes.SettingName.TheVariants as names
 use Rattle.gs_sdp.specs.Lines.{last_value, line_text}
-use Rattle.gs_sdp.specs.Table.{name_of}
+use Rattle.gs_sdp.specs.Table.{setting_name}
 use Rattle.gs_rtsp.specs.declared.field.Field.TheVariants as fields
 use Rattle.gs_rtsp.specs.declared.stream.Stream.{Stream}
 use Rattle.gs_rtsp.specs.declared.stream.Stream.TheVariants.{Audio, Video, Control}
@@ -33,14 +33,14 @@ use Rattle.gs_rtsp.specs.Fields.{field_header, header_number, is_number, is_same
 abbrev pub questions : List Question
 questions = Options ∷ Describe ∷ SetUp Audio ∷ SetUp Video ∷ SetUp Control ∷ Announce ∷ Play ∷ []
 
-abbrev pub number_of : Question → ℕ
-number_of Options = 1
-number_of Describe = 2
-number_of (SetUp Audio) = 3
-number_of (SetUp Video) = 4
-number_of (SetUp Control) = 5
-number_of Announce = 6
-number_of Play = 7
+abbrev pub question_number : Question → ℕ
+question_number Options = 1
+question_number Describe = 2
+question_number (SetUp Audio) = 3
+question_number (SetUp Video) = 4
+question_number (SetUp Control) = 5
+question_number Announce = 6
+question_number Play = 7
 
 -- ---- what the replies tell
 
@@ -48,7 +48,7 @@ number_of Play = 7
 abbrev pub duration_in : List ℕ → Option ℕ
 duration_in body =
     option_and_then (λ n. if n == short_duration || n == long_duration then Some n else None)
-    (option_and_then (decimal_up_to long_duration) (last_value (name_of names.Duration) body))
+    (option_and_then (decimal_up_to long_duration) (last_value (setting_name names.Duration) body))
 
 -- the length of an audio unit that a description names
 abbrev pub audio_in : List ℕ → Option ℕ
@@ -63,8 +63,8 @@ reply_to k [] = None
 reply_to k (r ∷ earlier) = if length earlier + 1 == k then Some r else reply_to k earlier
 
 -- what the reply to a request told, or what was wanted
-abbrev pub told : ℕ → (Response → Option ℕ) → ℕ → List Response → ℕ
-told k tells wanted replies = unwrap_or (option_and_then tells (reply_to k replies)) wanted
+abbrev pub told_value : ℕ → (Response → Option ℕ) → ℕ → List Response → ℕ
+told_value k tells wanted replies = unwrap_or (option_and_then tells (reply_to k replies)) wanted
 
 -- the settings that are wanted, with what the replies to the description and to the first set-up told
 abbrev pub agreed : Settings → List Response → StreamSettings
@@ -73,9 +73,9 @@ agreed want replies = record {
   percentage = want.percentage;
   minimum = want.minimum;
   fps = want.fps;
-  duration = told 2 (λ r. duration_in r.body) want.duration replies;
-  audio = told 2 (λ r. audio_in r.body) want.audio replies;
-  ssrc = told 3 (λ r. session_in r.headers) want.ssrc replies;
+  duration = told_value 2 (λ r. duration_in r.body) want.duration replies;
+  audio = told_value 2 (λ r. audio_in r.body) want.audio replies;
+  ssrc = told_value 3 (λ r. session_in r.headers) want.ssrc replies;
 }
 
 -- the settings with what the reply to a request tells
@@ -120,10 +120,10 @@ target_of host Play = url_of host
 
 -- the body that announces settings
 unfoldable pub announcement : StreamSettings → List ℕ
-announcement s = line_text (name_of names.PacketSize) (decimal s.packet)
-    ++ line_text (name_of names.MaxFps) (decimal s.fps)
-    ++ line_text (name_of names.Minimum) (decimal s.minimum)
-    ++ line_text (name_of names.Duration) (decimal s.duration)
+announcement s = line_text (setting_name names.PacketSize) (decimal s.packet)
+    ++ line_text (setting_name names.MaxFps) (decimal s.fps)
+    ++ line_text (setting_name names.Minimum) (decimal s.minimum)
+    ++ line_text (setting_name names.Duration) (decimal s.duration)
 
 abbrev pub request_body : StreamSettings → Question → List ℕ
 request_body s Announce = announcement s
@@ -157,15 +157,15 @@ request_for host s number question = record {
 -- ---- the faults of a reply
 
 -- the session's number is in its limits, and at the second and third set-up it is that of the first
-abbrev pub is_session : ℕ → Stream → ℕ → Bool
-is_session agreed_on stream n =
+abbrev pub is_session_allowed : ℕ → Stream → ℕ → Bool
+is_session_allowed agreed_on stream n =
     nat_le least_ssrc n && nat_le n most_ssrc && (is_same_stream stream Audio || n == agreed_on)
 
 -- what the reply to a set-up must have, by the session that it names
 abbrev pub names_stream : ℕ → ℕ → Stream → List Header → Option ℕ → Bool
 names_stream base agreed_on stream hs None = false
 names_stream base agreed_on stream hs (Some n) =
-    is_session agreed_on stream n && is_number (port_of base stream) (header_number fields.Port hs)
+    is_session_allowed agreed_on stream n && is_number (port_of base stream) (header_number fields.Port hs)
     && is_number n (header_number (data_field stream) hs)
 
 abbrev pub has_parts : ℕ → ℕ → Question → Response → Bool
@@ -180,8 +180,8 @@ abbrev pub is_good : ℕ → ℕ → ℕ → Question → Response → Bool
 is_good base agreed_on number question r =
     is_number number (header_number fields.Sequence r.headers) && has_parts base agreed_on question r
 
-abbrev pub fault_of : ℕ → ℕ → ℕ → Question → Response → Option Fault
-fault_of base agreed_on number question r =
+abbrev pub reply_fault : ℕ → ℕ → ℕ → Question → Response → Option Fault
+reply_fault base agreed_on number question r =
     if r.code == 200
     then (if is_good base agreed_on number question r then None else Some (BadReply number))
     else Some (Refused r.code)
@@ -194,11 +194,11 @@ abbrev pub host_base : Addr → ℕ
 host_base host = host.port - rtsp_port
 
 -- the first fault of the replies to the seven requests, of replies with the newest first
-abbrev pub first_fault : Settings → Addr → List Response → Option Fault
-first_fault want host [] = None
-first_fault want host (r ∷ earlier) =
-    or_else (first_fault want host earlier)
-    (option_and_then (λ q. fault_of (host_base host) (agreed want earlier).ssrc (length earlier + 1) q r)
+abbrev pub first_reply_fault : Settings → Addr → List Response → Option Fault
+first_reply_fault want host [] = None
+first_reply_fault want host (r ∷ earlier) =
+    or_else (first_reply_fault want host earlier)
+    (option_and_then (λ q. reply_fault (host_base host) (agreed want earlier).ssrc (length earlier + 1) q r)
     (slice_get questions (length earlier)))
 
 abbrev pub error_of : Fault → SetupError
@@ -216,12 +216,13 @@ next_request want host replies =
 -- is asked, and behind the last reply the settings are agreed on. Want of memory is free.
 abbrev pub IsNextAnswer : Settings → Addr → List Response → Result Step SetupError → Type 0
 IsNextAnswer want host replies (Ok (Ask request)) =
-    (first_fault want host replies ≡ None) × (next_request want host replies ≡ Some request)
+    (first_reply_fault want host replies ≡ None) × (next_request want host replies ≡ Some request)
 IsNextAnswer want host replies (Ok (Ready s)) =
-    (first_fault want host replies ≡ None) × (length replies ≡ length questions)
+    (first_reply_fault want host replies ≡ None) × (length replies ≡ length questions)
     × (numbers_of s ≡ agreed want replies)
-IsNextAnswer want host replies (Err (errors.Refused code)) = first_fault want host replies ≡ Some (Refused code)
-IsNextAnswer want host replies (Err (errors.BadReply number)) = first_fault want host replies ≡ Some (BadReply number)
+IsNextAnswer want host replies (Err (errors.Refused code)) = first_reply_fault want host replies ≡ Some (Refused code)
+IsNextAnswer want host replies (Err (errors.BadReply number)) =
+    first_reply_fault want host replies ≡ Some (BadReply number)
 IsNextAnswer want host replies (Err errors.OutOfMemory) = ⊤
 
 -- the replies with one more

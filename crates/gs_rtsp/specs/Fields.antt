@@ -6,7 +6,7 @@ use Rattle.gs_rtsp_text.specs.declared.header.Header.{Header}
 use Rattle.gs_bytes.specs.Words.{trimmed}
 use Rattle.gs_bytes.specs.Numbers.{decimal_up_to}
 use Rattle.gs_rtsp_text.specs.Lines.{value_by}
-use Rattle.gs_sdp.specs.Lines.{behind}
+use Rattle.gs_sdp.specs.Lines.{behind_prefix}
 use Rattle.gs_rtsp.specs.declared.field.Field.{Field}
 use Rattle.gs_rtsp.specs.declared.field.Field.TheVariants.{Sequence, ClientVersion, Session, Port, PingPayload}
 use Rattle.gs_rtsp.specs.declared.field.Field.TheVariants.{ConnectData, ContentLength}
@@ -73,24 +73,24 @@ unfoldable pub padded_number : ℕ → List ℕ → Option ℕ
 padded_number least ds = option_and_then (decimal_up_to (2 ^ 32 - 1)) (unpadded least ds)
 
 abbrev pub field_number : Field → List ℕ → Option ℕ
-field_number f value = option_and_then (padded_number (least_digits f)) (behind (field_prefix f) value)
+field_number f value = option_and_then (padded_number (least_digits f)) (behind_prefix (field_prefix f) value)
 
 abbrev pub is_semicolon : ℕ → Bool
 is_semicolon b = b == 59
 
 -- A session counts up to the first ';', without spaces at its ends. Every other value counts whole.
-abbrev pub counted : Field → List ℕ → List ℕ
-counted Session value = trimmed (before_first is_semicolon value)
-counted Sequence value = value
-counted ClientVersion value = value
-counted Port value = value
-counted PingPayload value = value
-counted ConnectData value = value
-counted ContentLength value = value
+abbrev pub counted_part : Field → List ℕ → List ℕ
+counted_part Session value = trimmed (before_first is_semicolon value)
+counted_part Sequence value = value
+counted_part ClientVersion value = value
+counted_part Port value = value
+counted_part PingPayload value = value
+counted_part ConnectData value = value
+counted_part ContentLength value = value
 
 -- the number of the first header of this name, where it is one
 abbrev pub header_number : Field → List Header → Option ℕ
-header_number f hs = option_and_then (λ value. field_number f (counted f value)) (value_by (field_name f) hs)
+header_number f hs = option_and_then (λ value. field_number f (counted_part f value)) (value_by (field_name f) hs)
 
 abbrev pub is_number : ℕ → Option ℕ → Bool
 is_number n None = false

@@ -11,7 +11,7 @@ use Rattle.gs_rtsp_text.specs.declared.message.Response.{Response}
 use Rattle.gs_rtsp_text.specs.Lines.{value_by}
 use Rattle.gs_sdp.specs.declared.attributes.SettingName.TheVariants.{PacketSize, MaxFps, Minimum, Duration}
 use Rattle.gs_sdp.specs.Lines.{line_text}
-use Rattle.gs_sdp.specs.Table.{name_of, setting}
+use Rattle.gs_sdp.specs.Table.{setting_name, setting}
 use Rattle.gs_rtsp.specs.declared.field.Field.TheVariants.{Session, Port, ContentLength}
 use Rattle.gs_rtsp.specs.declared.stream.Stream.{Stream}
 use Rattle.gs_rtsp.specs.declared.stream.Stream.TheVariants.{Audio, Video, Control}
@@ -33,13 +33,13 @@ pub data Answer : Type 0 where
   -- this code, and nothing changes
   Refused : (code : ℕ) → Answer
 
-abbrev pub code_of : Answer → ℕ
-code_of Unchanged = 200
-code_of Described = 200
-code_of (SetUp stream) = 200
-code_of Announced = 200
-code_of Playing = 200
-code_of (Refused code) = code
+abbrev pub status_code : Answer → ℕ
+status_code Unchanged = 200
+status_code Described = 200
+status_code (SetUp stream) = 200
+status_code Announced = 200
+status_code Playing = 200
+status_code (Refused code) = code
 
 -- ---- what answered requests leave
 
@@ -159,7 +159,8 @@ answered offer (r ∷ earlier) =
 -- the attributes of an offer
 unfoldable pub description : Settings → List ℕ
 description offer =
-    line_text (name_of Duration) (decimal offer.duration) ++ line_text (codes "x-gs-audio.length") (decimal offer.audio)
+    line_text (setting_name Duration) (decimal offer.duration)
+    ++ line_text (codes "x-gs-audio.length") (decimal offer.audio)
 
 -- the number of the request, as it came
 abbrev pub repeated_sequence : Request → Header
@@ -189,7 +190,7 @@ body_by offer _ = []
 abbrev pub response_by : Settings → ℕ → Request → Answer → Response
 response_by offer base r answer =
     record {
-      code = code_of answer;
+      code = status_code answer;
       headers = repeated_sequence r ∷ headers_by offer base answer;
       body = body_by offer answer;
     }

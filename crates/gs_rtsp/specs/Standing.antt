@@ -17,7 +17,7 @@ use Rattle.gs_rtsp.specs.declared.step.Step.{Step}
 use Rattle.gs_rtsp.specs.declared.step.Step.TheVariants.{Ask, Ready}
 use Rattle.gs_rtsp.specs.declared.step.SetupError.{SetupError}
 use Rattle.gs_rtsp.specs.declared.step.SetupError.TheVariants as errors
-use Rattle.gs_rtsp.specs.Asking.{questions, agreed, first_fault, request_for, with_reply}
+use Rattle.gs_rtsp.specs.Asking.{questions, agreed, first_reply_fault, request_for, with_reply}
 use Rattle.gs_rtsp.specs.Verdicts.{AreKept}
 
 -- ---- the server
@@ -49,20 +49,20 @@ ArePlayed offer requests played = MatchOption played (is_playing (answered offer
 -- ---- the set-up
 
 -- how many requests were asked
-abbrev pub asked_of : Setup → ℕ
-asked_of setup = setup.asked
+abbrev pub asked_count : Setup → ℕ
+asked_count setup = setup.asked
 
 -- The set-up wants these settings of this host, and its state is what the replies leave
 pub record Asks (setup : Setup) (want : Settings) (host : Addr) (replies : List Response) : Type 0 where
   pub host_is : setup.host ≡ host
-  pub fault : setup.fault ≡ first_fault want host replies
+  pub fault : setup.fault ≡ first_reply_fault want host replies
   pub settings : setup.fault ≡ None → numbers_of setup.settings ≡ agreed want replies
   pub asked : setup.fault ≡ None → (setup.asked ≡ 0 × replies ≡ []) ⊎ (setup.asked ≡ suc (length replies))
 
 -- the settings are those that the replies leave, or the first fault is told
 abbrev pub IsJudged : Settings → Addr → List Response → Result Settings Fault → Type 0
-IsJudged want host replies (Ok s) = (first_fault want host replies ≡ None) × (numbers_of s ≡ agreed want replies)
-IsJudged want host replies (Err fault) = first_fault want host replies ≡ Some fault
+IsJudged want host replies (Ok s) = (first_reply_fault want host replies ≡ None) × (numbers_of s ≡ agreed want replies)
+IsJudged want host replies (Err fault) = first_reply_fault want host replies ≡ Some fault
 
 -- with these settings the next request is asked, or there is none left
 abbrev pub IsStepAfter : Addr → ℕ → Settings → Step → Type 0
@@ -71,15 +71,15 @@ IsStepAfter host asked s (Ask request) =
 IsStepAfter host asked s (Ready t) = (asked ≡ length questions) × (t ≡ s)
 
 -- the reply is one more of those that the set-up stands for
-abbrev pub Takes : Setup → Setup → Option Response → Type 0
-Takes old new reply = (want : Settings) (host : Addr) (replies : List Response)
+abbrev pub TakesReply : Setup → Setup → Option Response → Type 0
+TakesReply old new reply = (want : Settings) (host : Addr) (replies : List Response)
     → Asks old want host replies → Asks new want host (with_reply reply replies)
 
 -- what a call leaves: the set-up takes the reply, or nothing changes where memory ran out
 abbrev pub Leaves : Setup → Setup → Option Response → Result Step SetupError → Type 0
-Leaves old new reply (Ok step) = Takes old new reply
-Leaves old new reply (Err (errors.Refused code)) = Takes old new reply
-Leaves old new reply (Err (errors.BadReply number)) = Takes old new reply
+Leaves old new reply (Ok step) = TakesReply old new reply
+Leaves old new reply (Err (errors.Refused code)) = TakesReply old new reply
+Leaves old new reply (Err (errors.BadReply number)) = TakesReply old new reply
 Leaves old new reply (Err errors.OutOfMemory) = new ≡ old
 
 abbrev pub IfAsk : Step → (Request → Type 0) → Type 0

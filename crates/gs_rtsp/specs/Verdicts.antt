@@ -6,7 +6,7 @@ use Rattle.gs_rtsp_text.specs.declared.message.Request.{Request}
 use Rattle.gs_sdp.specs.Table.{AreSettings}
 use Rattle.gs_rtsp.specs.declared.verdict.Verdict.{Verdict}
 use Rattle.gs_rtsp.specs.declared.verdict.Verdict.TheVariants as verdicts
-use Rattle.gs_rtsp.specs.Reply.{Answer, Answered, Unchanged, Described, SetUp, Announced, Playing, Refused, code_of}
+use Rattle.gs_rtsp.specs.Reply.{Answer, Answered, Unchanged, Described, SetUp, Announced, Playing, Refused, status_code}
 use Rattle.gs_rtsp.specs.Reply.{answer_by, answer_to, announced_body, is_playing}
 
 abbrev pub answer_of : Verdict → Answer
@@ -45,4 +45,4 @@ abbrev pub is_answered_code : ℕ → Bool
 is_answered_code code = code == 200 || code == 400 || code == 454 || code == 455
 
 abbrev pub has_code : Verdict → Bool
-has_code v = is_answered_code (code_of (answer_of v))
+has_code v = is_answered_code (status_code (answer_of v))

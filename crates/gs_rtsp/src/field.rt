@@ -2,8 +2,10 @@
 
 ghost use Rattle.std.specs.Prelude.{◌≡◌, ℕ, ◌+◌, ◌^◌, ◌<◌, ◌++◌, replicate, IfOk, IfSome, OnOk, Some};
 ghost use Rattle.std.specs.List.{before_first, position};
-ghost use Rattle.gs_rtsp.specs.Fields.{field_name, field_prefix, least_digits as least_digits_of, field_text, field_number, padded};
-ghost use Rattle.gs_rtsp.specs.Fields.{padded_number as padded_number_of, without_zeros as without_zeros_of, counted as counted_of};
+ghost use Rattle.gs_rtsp.specs.Fields.{field_name, field_prefix, least_digits as least_digits_of, field_text};
+ghost use Rattle.gs_rtsp.specs.Fields.{field_number, padded};
+ghost use Rattle.gs_rtsp.specs.Fields.{padded_number as padded_number_of, without_zeros as without_zeros_of};
+ghost use Rattle.gs_rtsp.specs.Fields.{counted_part};
 ghost use Rattle.gs_rtsp.specs.Fields.{header_number as header_number_of, is_semicolon, is_number};
 
 use gs_bytes::{OutOfMemory, Text, parse_number, trim};
@@ -153,7 +155,7 @@ fn padded_number(least: usize, digits: &[u8]) -> Option<u32>
 
 /// The part of a value that counts: a session's up to its first `;`, without spaces at its ends.
 fn counted(field: Field, value: &[u8]) -> &[u8]
-    ensures { result.now ≡ counted_of field value.now }
+    ensures { result.now ≡ counted_part field value.now }
 {
     match field {
         Field::Session => trim(before_semicolon(value)),

@@ -1,7 +1,7 @@
 //! What a client asks.
 
 ghost use Rattle.std.specs.Prelude.{◌≡◌, ◌≤◌, ◌-◌, Some, slice_get};
-ghost use Rattle.gs_rtsp.specs.Asking.{questions, number_of, method_of};
+ghost use Rattle.gs_rtsp.specs.Asking.{questions, question_number, method_of};
 
 use crate::stream::Stream;
 use gs_rtsp_text::Method;
@@ -25,7 +25,7 @@ impl Question {
         requires least { 1 ≤ number }
         requires greatest { number ≤ 7 }
         ensures place { slice_get questions (number - 1) ≡ Some result }
-        ensures number { number_of result ≡ number }
+        ensures number { question_number result ≡ number }
     {
         match number {
             1 => Question::Options,

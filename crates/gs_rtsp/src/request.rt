@@ -3,7 +3,8 @@
 ghost use Rattle.std.specs.Prelude.{◌≡◌, ◌≤◌, ◌++◌, decimal, length, IfOk, OnOk};
 ghost use Rattle.gs_rtp.specs.Stream.{numbers_of};
 ghost use Rattle.gs_rtsp_text.specs.Writing.{IsSendableRequest};
-ghost use Rattle.gs_rtsp.specs.Asking.{host_text, url_of, target_of, request_body, session_part, length_part, request_headers, request_for};
+ghost use Rattle.gs_rtsp.specs.Asking.{host_text, url_of, target_of, request_body, session_part, length_part};
+ghost use Rattle.gs_rtsp.specs.Asking.{request_headers, request_for};
 
 use crate::field::Field;
 use crate::header::push_field;

@@ -1,7 +1,8 @@
 //! The response to a request, by what it comes to.
 
 ghost use Rattle.std.specs.Prelude.{◌≡◌, ◌≤◌, ◌++◌, IfOk, OnOk};
-ghost use Rattle.gs_rtsp.specs.Reply.{stream_headers, repeated_sequence as repeated_sequence_of, session_header as session_header_of};
+ghost use Rattle.gs_rtsp.specs.Reply.{stream_headers, repeated_sequence as repeated_sequence_of};
+ghost use Rattle.gs_rtsp.specs.Reply.{session_header as session_header_of};
 ghost use Rattle.gs_rtsp.specs.Reply.{description as description_of, body_by, response_by};
 ghost use Rattle.gs_rtsp.specs.Verdicts.{answer_of};
 

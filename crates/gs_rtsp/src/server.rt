@@ -39,12 +39,15 @@ ghost use Rattle.std.specs.Prelude.{◌≤◌};
 impl Server {
     ghost use Rattle.std.specs.Prelude.{◌≡◌, ◌≢◌, ℕ, List, [], ◌∷◌, ◌&&◌, IsTrue, IfOk, OnOk, OnErr};
     ghost use Rattle.gs_rtp.specs.declared.settings.Settings.{Settings};
-    ghost use Rattle.gs_rtsp_text.specs.declared.message.Method.TheVariants.{Setup as method_setup, Announce as method_announce, Play as method_play};
+    ghost use Rattle.gs_rtsp_text.specs.declared.message.Method.TheVariants.{Setup as method_setup};
+    ghost use Rattle.gs_rtsp_text.specs.declared.message.Method.TheVariants.{Announce as method_announce};
+    ghost use Rattle.gs_rtsp_text.specs.declared.message.Method.TheVariants.{Play as method_play};
     ghost use Rattle.gs_rtsp_text.specs.declared.message.Request.{Request};
     ghost use Rattle.gs_rtsp_text.specs.Lines.{cseq_count};
     ghost use Rattle.gs_rtsp_text.specs.Message.{is_one, IsRequest};
     ghost use Rattle.gs_rtsp_text.specs.Writing.{IsSendableResponse};
-    ghost use Rattle.gs_rtsp.specs.Reply.{answered, code_of, reply, names_session as names_session_of, names_other_session as names_other_session_of};
+    ghost use Rattle.gs_rtsp.specs.Reply.{answered, status_code, reply, names_session as names_session_of};
+    ghost use Rattle.gs_rtsp.specs.Reply.{names_other_session as names_other_session_of};
     ghost use Rattle.gs_rtsp.specs.Verdicts.{IsVerdict, IsVerdictBy, answer_of, has_code};
     ghost use Rattle.gs_rtsp.specs.Standing.{Serves, ArePlayed, is_phase_playing};
 
@@ -178,7 +181,7 @@ impl Server {
             → Serves self.old offer base earlier
             → IsVerdict offer (answered offer earlier) request verdict
             → Serves self.new offer base (request ∷ earlier) }
-        ensures refused { code_of (answer_of verdict) ≢ 200 → self.new ≡ self.old }
+        ensures refused { status_code (answer_of verdict) ≢ 200 → self.new ≡ self.old }
     {
         match verdict {
             Verdict::SetUp(Stream::Audio) => self.audio = true,

@@ -37,7 +37,7 @@ impl Setup {
     ghost use Rattle.gs_rtp.specs.declared.settings.Settings.{Settings};
     ghost use Rattle.gs_rtsp_text.specs.declared.message.Response.{Response};
     ghost use Rattle.gs_rtsp.specs.Asking.{IsNextAnswer, with_reply};
-    ghost use Rattle.gs_rtsp.specs.Standing.{asked_of, Asks, IsJudged, IsStepAfter, Leaves, IfAsk};
+    ghost use Rattle.gs_rtsp.specs.Standing.{asked_count, Asks, IsJudged, IsStepAfter, Leaves, IfAsk};
     ghost use Rattle.gs_rtsp_text.specs.Writing.{IsSendableRequest};
 
     /// A set-up that wants these settings of a host, by the address of its RTSP port.
@@ -45,7 +45,7 @@ impl Setup {
         requires least { 1045 ≤ host.port }
         requires greatest { host.port ≤ 65021 }
         ensures stands { Asks result want host [] }
-        ensures asked { asked_of result ≡ 0 }
+        ensures asked { asked_count result ≡ 0 }
     {
         Setup {
             settings: want,
@@ -57,8 +57,8 @@ impl Setup {
 
     /// The settings with what a reply told, or the first fault.
     fn told_by(&self, reply: Option<&Response>) -> Result<Settings, Fault>
-        requires reply { is_some reply ≡ nat_lt 0 (asked_of self.now) }
-        requires open { asked_of self.now ≤ 7 }
+        requires reply { is_some reply ≡ nat_lt 0 (asked_count self.now) }
+        requires open { asked_count self.now ≤ 7 }
         ensures judged { (want : Settings) (host : Addr) (replies : List Response)
             → Asks self.now want host replies
             → IsJudged want host (with_reply (option_copied reply.entry) replies) result }
@@ -79,7 +79,7 @@ impl Setup {
 
     /// What is done next with these settings.
     fn step(&self, alloc: Global, settings: Settings) -> Result<Step, OutOfMemory>
-        requires { asked_of self.now ≤ 7 }
+        requires { asked_count self.now ≤ 7 }
         ensures step { IfOk result (IsStepAfter self.now.host self.now.asked settings) }
         ensures sendable { IfOk result (λ step. IfAsk step IsSendableRequest) }
     {
@@ -94,14 +94,14 @@ impl Setup {
 
     /// What is to be done next, once the reply to the last request came.
     pub fn next(&mut self, alloc: Global, reply: Option<&Response>) -> Result<Step, SetupError>
-        requires reply { is_some reply ≡ nat_lt 0 (asked_of self.old) }
-        requires open { asked_of self.old ≤ 7 }
+        requires reply { is_some reply ≡ nat_lt 0 (asked_count self.old) }
+        requires open { asked_count self.old ≤ 7 }
         ensures next { (want : Settings) (host : Addr) (replies : List Response)
             → Asks self.old want host replies
             → IsNextAnswer want host (with_reply (option_copied reply.entry) replies) result }
         ensures stands { Leaves self.old self.new (option_copied reply.entry) result }
-        ensures asked { OnOk result (asked_of self.new ≡ asked_of self.old + 1) }
-        ensures same { OnErr result (asked_of self.new ≡ asked_of self.old) }
+        ensures asked { OnOk result (asked_count self.new ≡ asked_count self.old + 1) }
+        ensures same { OnErr result (asked_count self.new ≡ asked_count self.old) }
         ensures sendable { IfOk result (λ step. IfAsk step IsSendableRequest) }
     {
         match self.told_by(reply) {

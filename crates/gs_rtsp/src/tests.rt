@@ -2,7 +2,9 @@
 
 ghost use Rattle.std.specs.Prelude.{◌≡◌, ◌≤◌, ◌+◌, IfOk, OnOk};
 ghost use Rattle.gs_rtsp_text.specs.Writing.{IsSendableRequest};
-ghost use Rattle.gs_rtsp.specs.Standing.{asked_of, IfAsk};
+ghost use Rattle.gs_rtsp.specs.Standing.{asked_count, IfAsk};
+
+mod texts;
 
 use super::*;
 use gs_bytes::{Addr, Text};
@@ -57,9 +59,9 @@ fn round(
     request: &Request,
 ) -> Result<Step, Fail>
     requires sendable { IsSendableRequest request.now }
-    requires asked { 1 ≤ asked_of setup.old }
-    requires open { asked_of setup.old ≤ 7 }
-    ensures asked { OnOk result (asked_of setup.new ≡ asked_of setup.old + 1) }
+    requires asked { 1 ≤ asked_count setup.old }
+    requires open { asked_count setup.old ≤ 7 }
+    ensures asked { OnOk result (asked_count setup.new ≡ asked_count setup.old + 1) }
     ensures sendable { IfOk result (λ step. IfAsk step IsSendableRequest) }
 {
     let text = write_request(alloc, request)?;
@@ -70,7 +72,7 @@ fn round(
 
 /// The settings behind seven rounds.
 fn settled(setup: &mut Setup, server: &mut Server, alloc: Global) -> Result<Settings, Fail>
-    requires { asked_of setup.old ≡ 0 }
+    requires { asked_count setup.old ≡ 0 }
 {
     let mut step = setup.next(alloc, None)?;
     for _round in 0..7_usize {
@@ -96,37 +98,6 @@ fn both_ends_by_their_texts(rt: HostRuntime) -> Result<(), Fail> {
         Some(settings),
         Settings::make(1_392, 20, 2, 120, 5, 240, 7)
     );
-    Ok(())
-}
-
-#[test]
-fn responses_as_texts(rt: HostRuntime) -> Result<(), Fail> {
-    let mut server = Server::new(offer()?, BASE);
-    for (text, want) in [
-        (
-            b"OPTIONS rtsp://127.0.0.1:48010 RTSP/1.0\r\nCSeq: 1\r\nX-GS-ClientVersion: 14\r\n\r\n".as_slice(),
-            b"RTSP/1.0 200 OK\r\nCSeq: 1\r\n\r\n".as_slice(),
-        ),
-        (
-            b"PLAY x RTSP/1.0\r\nCSeq: 2\r\n\r\n".as_slice(),
-            b"RTSP/1.0 455 Method Not Valid in This State\r\nCSeq: 2\r\n\r\n".as_slice(),
-        ),
-        (
-            b"DESCRIBE x RTSP/1.0\r\ncseq: 3\r\n\r\n".as_slice(),
-            b"RTSP/1.0 200 OK\r\nCSeq: 3\r\nContent-length: 55\r\n\r\na=x-nv-aqos.packetDuration:5\r\na=x-gs-audio.length:240\r\n".as_slice(),
-        ),
-        (
-            b"SETUP a/streamid=video/streamid=audio RTSP/1.0\r\nCSeq: 4\r\n\r\n".as_slice(),
-            b"RTSP/1.0 200 OK\r\nCSeq: 4\r\nSession: DEADBEEF0007;timeout = 90\r\nTransport: server_port=47998\r\nX-SS-Ping-Payload: 0000000000000007\r\n\r\n".as_slice(),
-        ),
-        (
-            b"SETUP streamid=control/1/0 RTSP/1.0\r\nCSeq: 5\r\nSession:  DEADBEEF0007 ;timeout = 90\r\n\r\n".as_slice(),
-            b"RTSP/1.0 200 OK\r\nCSeq: 5\r\nSession: DEADBEEF0007;timeout = 90\r\nTransport: server_port=47999\r\nX-SS-Connect-Data: 7\r\n\r\n".as_slice(),
-        ),
-    ] {
-        let response = answered(&mut server, rt.alloc(), text)?;
-        assert_eq!(rt; response.as_bytes(), want);
-    }
     Ok(())
 }
 
@@ -198,12 +169,16 @@ fn each_row_met_and_passed_over(rt: HostRuntime) -> Result<(), Fail> {
         ),
         (
             3,
-            b"ANNOUNCE x RTSP/1.0\r\nCSeq: 9\r\nSession: DEADBEEF0007\r\nContent-length: 32\r\n\r\na=x-nv-video[0].packetSize:512\r\n".as_slice(),
+            b"ANNOUNCE x RTSP/1.0\r\nCSeq: 9\r\nSession: DEADBEEF0007\r\nContent-length: 32\r\n\r\n\
+                a=x-nv-video[0].packetSize:512\r\n"
+                .as_slice(),
             400,
         ),
         (
             3,
-            b"ANNOUNCE x RTSP/1.0\r\nCSeq: 9\r\nSession: DEADBEEF0007\r\nContent-length: 33\r\n\r\na=x-nv-video[0].packetSize:1024\r\n".as_slice(),
+            b"ANNOUNCE x RTSP/1.0\r\nCSeq: 9\r\nSession: DEADBEEF0007\r\nContent-length: 33\r\n\r\n\
+                a=x-nv-video[0].packetSize:1024\r\n"
+                .as_slice(),
             200,
         ),
         (
@@ -232,10 +207,14 @@ fn each_row_met_and_passed_over(rt: HostRuntime) -> Result<(), Fail> {
 /// The replies to the first six requests.
 const REPLIES: [&[u8]; 6] = [
     b"RTSP/1.0 200 OK\r\nCSeq: 1\r\n\r\n",
-    b"RTSP/1.0 200 OK\r\nCSeq: 2\r\nContent-length: 55\r\n\r\na=x-nv-aqos.packetDuration:5\r\na=x-gs-audio.length:240\r\n",
-    b"RTSP/1.0 200 OK\r\nCSeq: 3\r\nSession: DEADBEEF0007;timeout = 90\r\nTransport: server_port=48000\r\nX-SS-Ping-Payload: 0000000000000007\r\n\r\n",
-    b"RTSP/1.0 200 OK\r\nCSeq: 4\r\nSession: DEADBEEF0007\r\nTransport: server_port=47998\r\nX-SS-Ping-Payload: 0000000000000007\r\n\r\n",
-    b"RTSP/1.0 200 OK\r\nCSeq: 5\r\nSession: DEADBEEF0007\r\nTransport: server_port=47999\r\nX-SS-Connect-Data: 7\r\n\r\n",
+    b"RTSP/1.0 200 OK\r\nCSeq: 2\r\nContent-length: 55\r\n\r\na=x-nv-aqos.packetDuration:5\r\n\
+        a=x-gs-audio.length:240\r\n",
+    b"RTSP/1.0 200 OK\r\nCSeq: 3\r\nSession: DEADBEEF0007;timeout = 90\r\nTransport: server_port=48000\r\n\
+        X-SS-Ping-Payload: 0000000000000007\r\n\r\n",
+    b"RTSP/1.0 200 OK\r\nCSeq: 4\r\nSession: DEADBEEF0007\r\nTransport: server_port=47998\r\n\
+        X-SS-Ping-Payload: 0000000000000007\r\n\r\n",
+    b"RTSP/1.0 200 OK\r\nCSeq: 5\r\nSession: DEADBEEF0007\r\nTransport: server_port=47999\r\n\
+        X-SS-Connect-Data: 7\r\n\r\n",
     b"RTSP/1.0 200 OK\r\nCSeq: 6\r\n\r\n",
 ];
 
@@ -293,7 +272,9 @@ fn replies_that_lack_something(rt: HostRuntime) -> Result<(), Fail> {
         ),
         (
             1,
-            b"RTSP/1.0 200 OK\r\nCSeq: 2\r\nContent-length: 55\r\n\r\na=x-nv-aqos.packetDuration:7\r\na=x-gs-audio.length:240\r\n".as_slice(),
+            b"RTSP/1.0 200 OK\r\nCSeq: 2\r\nContent-length: 55\r\n\r\na=x-nv-aqos.packetDuration:7\r\n\
+                a=x-gs-audio.length:240\r\n"
+                .as_slice(),
             SetupError::BadReply(2),
         ),
         (
@@ -303,37 +284,51 @@ fn replies_that_lack_something(rt: HostRuntime) -> Result<(), Fail> {
         ),
         (
             1,
-            b"RTSP/1.0 200 OK\r\nCSeq: 2\r\nContent-length: 56\r\n\r\na=x-nv-aqos.packetDuration:5\r\na=x-gs-audio.length:1401\r\n".as_slice(),
+            b"RTSP/1.0 200 OK\r\nCSeq: 2\r\nContent-length: 56\r\n\r\na=x-nv-aqos.packetDuration:5\r\n\
+                a=x-gs-audio.length:1401\r\n"
+                .as_slice(),
             SetupError::BadReply(2),
         ),
         (
             2,
-            b"RTSP/1.0 200 OK\r\nCSeq: 3\r\nTransport: server_port=48000\r\nX-SS-Ping-Payload: 0000000000000007\r\n\r\n".as_slice(),
+            b"RTSP/1.0 200 OK\r\nCSeq: 3\r\nTransport: server_port=48000\r\n\
+                X-SS-Ping-Payload: 0000000000000007\r\n\r\n"
+                .as_slice(),
             SetupError::BadReply(3),
         ),
         (
             2,
-            b"RTSP/1.0 200 OK\r\nCSeq: 3\r\nSession: DEADBEEF0000\r\nTransport: server_port=48000\r\nX-SS-Ping-Payload: 0000000000000000\r\n\r\n".as_slice(),
+            b"RTSP/1.0 200 OK\r\nCSeq: 3\r\nSession: DEADBEEF0000\r\nTransport: server_port=48000\r\n\
+                X-SS-Ping-Payload: 0000000000000000\r\n\r\n"
+                .as_slice(),
             SetupError::BadReply(3),
         ),
         (
             2,
-            b"RTSP/1.0 200 OK\r\nCSeq: 3\r\nSession: DEADBEEF0007\r\nX-SS-Ping-Payload: 0000000000000007\r\n\r\n".as_slice(),
+            b"RTSP/1.0 200 OK\r\nCSeq: 3\r\nSession: DEADBEEF0007\r\n\
+                X-SS-Ping-Payload: 0000000000000007\r\n\r\n"
+                .as_slice(),
             SetupError::BadReply(3),
         ),
         (
             2,
-            b"RTSP/1.0 200 OK\r\nCSeq: 3\r\nSession: DEADBEEF0007\r\nTransport: server_port=48000\r\nX-SS-Ping-Payload: 7\r\n\r\n".as_slice(),
+            b"RTSP/1.0 200 OK\r\nCSeq: 3\r\nSession: DEADBEEF0007\r\nTransport: server_port=48000\r\n\
+                X-SS-Ping-Payload: 7\r\n\r\n"
+                .as_slice(),
             SetupError::BadReply(3),
         ),
         (
             3,
-            b"RTSP/1.0 200 OK\r\nCSeq: 4\r\nSession: DEADBEEF0007\r\nTransport: server_port=48000\r\nX-SS-Ping-Payload: 0000000000000007\r\n\r\n".as_slice(),
+            b"RTSP/1.0 200 OK\r\nCSeq: 4\r\nSession: DEADBEEF0007\r\nTransport: server_port=48000\r\n\
+                X-SS-Ping-Payload: 0000000000000007\r\n\r\n"
+                .as_slice(),
             SetupError::BadReply(4),
         ),
         (
             3,
-            b"RTSP/1.0 200 OK\r\nCSeq: 4\r\nSession: DEADBEEF0008\r\nTransport: server_port=47998\r\nX-SS-Ping-Payload: 0000000000000008\r\n\r\n".as_slice(),
+            b"RTSP/1.0 200 OK\r\nCSeq: 4\r\nSession: DEADBEEF0008\r\nTransport: server_port=47998\r\n\
+                X-SS-Ping-Payload: 0000000000000008\r\n\r\n"
+                .as_slice(),
             SetupError::BadReply(4),
         ),
         (
@@ -343,7 +338,9 @@ fn replies_that_lack_something(rt: HostRuntime) -> Result<(), Fail> {
         ),
         (
             4,
-            b"RTSP/1.0 200 OK\r\nCSeq: 5\r\nSession: DEADBEEF0009\r\nTransport: server_port=47999\r\nX-SS-Connect-Data: 9\r\n\r\n".as_slice(),
+            b"RTSP/1.0 200 OK\r\nCSeq: 5\r\nSession: DEADBEEF0009\r\nTransport: server_port=47999\r\n\
+                X-SS-Connect-Data: 9\r\n\r\n"
+                .as_slice(),
             SetupError::BadReply(5),
         ),
         (
@@ -362,26 +359,5 @@ fn replies_that_lack_something(rt: HostRuntime) -> Result<(), Fail> {
     }
     let whole = faults_behind(rt.alloc(), 6, b"RTSP/1.0 200 OK\r\nCSeq: 7\r\n\r\n")?;
     assert_eq!(rt; whole, (None, None));
-    Ok(())
-}
-
-#[test]
-fn numbers_of_headers(rt: HostRuntime) -> Result<(), Fail> {
-    for (field, number, text) in [
-        (Field::Session, 7, b"DEADBEEF0007".as_slice()),
-        (Field::Port, 47_998, b"server_port=47998".as_slice()),
-        (Field::PingPayload, 9_999, b"0000000000009999".as_slice()),
-        (Field::ConnectData, 12, b"12".as_slice()),
-    ] {
-        let value = field.write(rt.alloc(), number)?;
-        assert_eq!(rt; value.as_bytes(), text);
-        assert_eq!(rt; field.read(text), Some(number));
-    }
-    assert_eq!(rt; Field::Session.read(b"DEADBEEF007"), None);
-    assert_eq!(rt; Stream::Video.port(BASE), 47_998);
-    assert_eq!(rt;
-        Stream::Control.data_field().name(),
-        b"X-SS-Connect-Data".as_slice()
-    );
     Ok(())
 }

@@ -1,9 +1,11 @@
 //! What the reply to a request tells, and what it lacks.
 
-ghost use Rattle.std.specs.Prelude.{◌≡◌, ◌≤◌, ◌&&◌, Some, None, true, false, is_some, unwrap_or, MatchOption, MatchResult};
+ghost use Rattle.std.specs.Prelude.{◌≡◌, ◌≤◌, ◌&&◌, Some, None, true, false, is_some, unwrap_or, MatchOption};
+ghost use Rattle.std.specs.Prelude.{MatchResult};
 ghost use Rattle.gs_rtp.specs.Stream.{numbers_of};
-ghost use Rattle.gs_rtsp.specs.Asking.{duration_in as duration_of, audio_in as audio_of, session_in, is_session as is_session_of};
-ghost use Rattle.gs_rtsp.specs.Asking.{names_stream, is_good, fault_of, with_told};
+ghost use Rattle.gs_rtsp.specs.Asking.{duration_in as duration_of, audio_in as audio_of, session_in};
+ghost use Rattle.gs_rtsp.specs.Asking.{is_session_allowed};
+ghost use Rattle.gs_rtsp.specs.Asking.{names_stream, is_good, reply_fault, with_told};
 
 use crate::field::{Field, has_number, header_number};
 use crate::question::Question;
@@ -11,8 +13,8 @@ use crate::response::AUDIO_LENGTH;
 use crate::step::Fault;
 use crate::stream::Stream;
 use crate::verdict::OK;
-use gs_bytes::{MOST_AUDIO, parse_number};
-use gs_rtp::{DURATION_LONG, DURATION_SHORT, SSRC_GREATEST, SSRC_LEAST, Settings};
+use gs_bytes::{DURATION_LONG, DURATION_SHORT, MOST_AUDIO, parse_number};
+use gs_rtp::{SSRC_GREATEST, SSRC_LEAST, Settings};
 use gs_rtsp_text::{Headers, Response};
 use gs_sdp::{SettingName, last_value};
 
@@ -59,7 +61,7 @@ fn described(settings: &Settings, body: &[u8]) -> Option<Settings>
 
 /// Whether a session has a number that it may have: at the second and third set-up that of the first.
 fn is_session(agreed_on: u32, stream: Stream, session: u32) -> bool
-    ensures { result ≡ is_session_of agreed_on stream session }
+    ensures { result ≡ is_session_allowed agreed_on stream session }
 {
     (SSRC_LEAST..=SSRC_GREATEST).contains(&session)
         && (stream == Stream::Audio || session == agreed_on)
@@ -70,7 +72,9 @@ fn set_up(settings: &Settings, base: u16, stream: Stream, headers: &Headers) -> 
     ensures { MatchOption result
         (names_stream base settings.now.ssrc stream headers.now (session_in headers.now) ≡ false)
         (λ s. (names_stream base settings.now.ssrc stream headers.now (session_in headers.now) ≡ true)
-        × (numbers_of s ≡ record (numbers_of settings.now) { ssrc = unwrap_or (session_in headers.now) settings.now.ssrc })) }
+        × (numbers_of s ≡ record (numbers_of settings.now) {
+          ssrc = unwrap_or (session_in headers.now) settings.now.ssrc;
+        })) }
 {
     let Some(session) = header_number(headers, Field::Session) else {
         return None;
@@ -122,10 +126,10 @@ pub(crate) fn judged(
 ) -> Result<Settings, Fault>
     requires { base ≤ 65000 }
     ensures { MatchResult result
-        (λ s. (fault_of base settings.now.ssrc number question reply.now ≡ None)
+        (λ s. (reply_fault base settings.now.ssrc number question reply.now ≡ None)
         × (is_good base settings.now.ssrc number question reply.now ≡ true)
         × (numbers_of s ≡ with_told question reply.now (numbers_of settings.now)))
-        (λ fault. fault_of base settings.now.ssrc number question reply.now ≡ Some fault) }
+        (λ fault. reply_fault base settings.now.ssrc number question reply.now ≡ Some fault) }
 {
     if reply.code != OK {
         return Err(Fault::Refused(reply.code));

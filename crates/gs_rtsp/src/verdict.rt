@@ -1,7 +1,7 @@
 //! What a request comes to.
 
 ghost use Rattle.std.specs.Prelude.{◌≡◌};
-ghost use Rattle.gs_rtsp.specs.Reply.{code_of};
+ghost use Rattle.gs_rtsp.specs.Reply.{status_code};
 ghost use Rattle.gs_rtsp.specs.Verdicts.{answer_of};
 
 use crate::stream::Stream;
@@ -39,7 +39,7 @@ pub(crate) enum Verdict {
 impl Verdict {
     /// The code of the response.
     pub(crate) fn code(self) -> u16
-        ensures { result ≡ code_of (answer_of self) }
+        ensures { result ≡ status_code (answer_of self) }
     {
         match self {
             Verdict::Refused(code) => code,

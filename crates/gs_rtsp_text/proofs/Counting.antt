@@ -13,7 +13,7 @@ use Rattle.gs_rtsp_text.specs.declared.stop.Stop.{Stop}
 use Rattle.gs_rtsp_text.specs.Bytes.{crlf}
 use Rattle.gs_rtsp_text.specs.Lines.{body_length, content_lengths, cseq_count, is_content_length, is_cseq, length_by, most_body}
 use Rattle.gs_rtsp_text.specs.Message.{count_test}
-use Rattle.gs_rtsp_text.specs.Reading.{HeadFields, fields}
+use Rattle.gs_rtsp_text.specs.Reading.{HeadFields, head_fields}
 use Rattle.gs_rtsp_text.specs.Reading.{◌>>=◌, HasRest, IsRestOf, begins_with_cr, empty_line_at, header_at, length_if_right, literal_at, rest_of_head}
 use Rattle.gs_rtsp_text.proofs.Rest.{rest_at_empty_line, rest_at_header, rest_at_stop}
 
@@ -93,7 +93,7 @@ counted_size kind sequences given size bytes rest c =
 
 -- the head behind the empty line
 abbrev pub behind_line : List Header → ℕ → Result (List ℕ) Stop → Result (HeadFields × List ℕ) Stop
-behind_line hs n read = read >>= λ rest. Ok (fields hs n, rest)
+behind_line hs n read = read >>= λ rest. Ok (head_fields hs n, rest)
 
 -- what the rest of the head gives is what its empty line gives
 pub counted_rest : (kind : Kind) (sequences : ℕ) (given : Bool) (size : Option ℕ) (bytes rest : List ℕ) (o : Option ℕ)
@@ -132,8 +132,8 @@ headers_of_line : (hs : List Header) (o : Option ℕ) (s : List ℕ) (x : HeadFi
 headers_of_line hs None s x e = absurd cc
 headers_of_line hs (Some n) s x e = by_literal (literal_at crlf s) e
   where
-    by_literal : (r : Result (List ℕ) Stop) → (r >>= λ rest. Ok (fields hs n, rest)) ≡ Ok x → hs ≡ x.0.headers
-    by_literal (Ok rest) e = let same : (fields hs n, rest) ≡ x = cc in ap (λ (y : HeadFields × List ℕ). y.0.headers) same
+    by_literal : (r : Result (List ℕ) Stop) → (r >>= λ rest. Ok (head_fields hs n, rest)) ≡ Ok x → hs ≡ x.0.headers
+    by_literal (Ok rest) e = let same : (head_fields hs n, rest) ≡ x = cc in ap (λ (y : HeadFields × List ℕ). y.0.headers) same
     by_literal (Err stop) e = absurd cc
 
 -- the headers in front of the empty line are those of the head

@@ -7,17 +7,19 @@ use Rattle.std.proofs.lemmas.List.{take-append-drop, take-append-le, take_at, ta
 use Rattle.std.proofs.lemmas.List.Folds.{concat-append}
 use Rattle.std.proofs.lemmas.Bool.{cases_lt}
 use Rattle.std.proofs.lemmas.Bool.Decides.{nat_tests}
+use Rattle.std.proofs.lemmas.Option.{same_Some}
+use Rattle.std.proofs.lemmas.List.{append_cancel_left}
 use Rattle.gs_rtsp_text.specs.declared.header.Header.{Header}
 use Rattle.gs_rtsp_text.specs.declared.stop.Stop.{Stop}
 use Rattle.gs_rtsp_text.specs.declared.stop.Stop.TheVariants.{More as stop_more, Bad}
 use Rattle.gs_rtsp_text.specs.Bytes.{crlf}
 use Rattle.gs_rtsp_text.specs.Lines.{AreHeaderLines, body_length}
-use Rattle.gs_rtsp_text.specs.Message.{Message, Whole, BadText, More, AreLines, IsHead, HasHead, CanBegin, GoesWrongAt, IsBadPlace, IsMessage, IsWhole}
+use Rattle.gs_rtsp_text.specs.Message.{TextMessage, Whole, BadText, More, AreLines, IsHead, HasHead, CanBegin, GoesWrongAt, IsBadPlace, IsMessage, IsWhole}
 use Rattle.gs_rtsp_text.specs.Message.{IsAnswer, most_head}
-use Rattle.gs_rtsp_text.specs.Reading.{Head}
-use Rattle.gs_rtsp_text.specs.Reading.{answer_by, place_answer, head_by}
+use Rattle.gs_rtsp_text.specs.Reading.{MessageHead}
+use Rattle.gs_rtsp_text.specs.Reading.{text_answer, place_answer, head_by}
 use Rattle.gs_rtsp_text.specs.Laws.{HasOneAnswer, Stays, IsSameInPieces}
-use Rattle.gs_rtsp_text.proofs.Parts.{IsCode, Meets, append-cancel}
+use Rattle.gs_rtsp_text.proofs.Parts.{IsCode, Meets}
 use Rattle.gs_rtsp_text.proofs.HeaderLines.{header_code}
 use Rattle.gs_rtsp_text.proofs.Rest.{line_no_crlf}
 use Rattle.gs_rtsp_text.proofs.Heads.{HeadTaken, HeadOpens, HeadStops, MeetsHead, head_meets}
@@ -34,18 +36,15 @@ lines_same (h ∷ hs) (i ∷ is) a b x y p q e =
     sym (append_assoc p.0 p.1 (crlf ++ x)) ∙ ap (λ (u : List ℕ). u ++ (crlf ++ x)) (sym p.4) ∙ e ∙ ap (λ (u : List ℕ). u ++ (crlf ++ y)) q.4
     ∙ append_assoc q.0 q.1 (crlf ++ y) in
     let first = header_code p.0 q.0 (p.1 ++ (crlf ++ x)) (q.1 ++ (crlf ++ y)) h i p.2 q.2 whole in
-    let tail = append-cancel p.0 (p.1 ++ (crlf ++ x)) (q.1 ++ (crlf ++ y)) (whole ∙ ap (λ (u : List ℕ). u ++ (q.1 ++ (crlf ++ y))) (sym first.0)) in
+    let tail = append_cancel_left p.0 (p.1 ++ (crlf ++ x)) (q.1 ++ (crlf ++ y)) (whole ∙ ap (λ (u : List ℕ). u ++ (q.1 ++ (crlf ++ y))) (sym first.0)) in
     let rest = lines_same hs is p.1 q.1 x y p.3 q.3 tail in (
       p.4 ∙ ap (λ (u : List ℕ). u ++ p.1) first.0 ∙ ap (λ (u : List ℕ). q.0 ++ u) rest.0 ∙ sym q.4,
       ap (λ (k : Header). k ∷ hs) first.1
           ∙ ap (λ (ks : List Header). i ∷ ks) rest.1,
     )
 
-abbrev made : {S : Type 0} → S → List Header → List ℕ → Message S
+abbrev made : {S : Type 0} → S → List Header → List ℕ → TextMessage S
 made s hs u = record { start = s; headers = hs; body = u }
-
-some_is : (m n : ℕ) → Some m ≡ Some n → m ≡ n
-some_is m n e = cc
 
 module _ {S : Type 0} (IsFirstLine : List ℕ → S → Type 0) (may_have : ℕ → Bool) (code : IsCode IsFirstLine) where
   record SameHead (a b : List ℕ) (s t : S) (hs is : List Header) (m n : ℕ) : Type 0 where
@@ -63,17 +62,17 @@ module _ {S : Type 0} (IsFirstLine : List ℕ → S → Type 0) (may_have : ℕ 
       ∙ append_assoc q.first q.lines (crlf ++ y) in
       let whole = sym pe ∙ e ∙ qe in
       let first = code p.first q.first (p.lines ++ (crlf ++ x)) (q.lines ++ (crlf ++ y)) s t p.first_line q.first_line whole in
-      let tail = append-cancel p.first (p.lines ++ (crlf ++ x)) (q.lines ++ (crlf ++ y))
+      let tail = append_cancel_left p.first (p.lines ++ (crlf ++ x)) (q.lines ++ (crlf ++ y))
       (whole ∙ ap (λ (u : List ℕ). u ++ (q.lines ++ (crlf ++ y))) (sym first.0)) in
       let lines = lines_same hs is p.lines q.lines x y p.header_lines q.header_lines tail in
       record {
         head = p.parts ∙ ap (λ (u : List ℕ). u ++ p.lines ++ crlf) first.0 ∙ ap (λ (u : List ℕ). q.first ++ u ++ crlf) lines.0 ∙ sym q.parts;
         start = first.1;
         headers = lines.1;
-        body = some_is m n (sym p.body_is ∙ ap body_length lines.1 ∙ q.body_is);
+        body = same_Some m n (sym p.body_is ∙ ap body_length lines.1 ∙ q.body_is);
       }
 
-  message_same : (m n : Message S) → m.start ≡ n.start → m.headers ≡ n.headers → m.body ≡ n.body → m ≡ n
+  message_same : (m n : TextMessage S) → m.start ≡ n.start → m.headers ≡ n.headers → m.body ≡ n.body → m ≡ n
   message_same m n a b c =
       ap (λ (s : S). made s m.headers m.body) a ∙ ap (λ (hs : List Header). made n.start hs m.body) b ∙ ap (λ (u : List ℕ). made n.start n.headers u) c
 
@@ -94,17 +93,17 @@ module _ {S : Type 0} (IsFirstLine : List ℕ → S → Type 0) (may_have : ℕ 
   head_front j bytes g = (drop j bytes, inr (subst (HasHead IsFirstLine may_have) (sym (take-append-drop j bytes)) g))
 
   -- a message in front is a head in front, within the limit
-  whole_head : (bytes : List ℕ) (m : Message S) (used : ℕ) (w : IsWhole IsFirstLine may_have bytes m used) → bytes ≡ w.1.head ++ (m.body ++ drop used bytes)
+  whole_head : (bytes : List ℕ) (m : TextMessage S) (used : ℕ) (w : IsWhole IsFirstLine may_have bytes m used) → bytes ≡ w.1.head ++ (m.body ++ drop used bytes)
   whole_head bytes m used w = sym (take-append-drop used bytes) ∙ ap (λ (u : List ℕ). u ++ drop used bytes) w.1.parts
       ∙ append_assoc w.1.head m.body (drop used bytes)
 
-  whole_used : (bytes : List ℕ) (m : Message S) (used : ℕ) (w : IsWhole IsFirstLine may_have bytes m used) → used ≡ length w.1.head + length m.body
+  whole_used : (bytes : List ℕ) (m : TextMessage S) (used : ℕ) (w : IsWhole IsFirstLine may_have bytes m used) → used ≡ length w.1.head + length m.body
   whole_used bytes m used w = omega (arith, length-take-le used bytes w.0, ap length w.1.parts, length-append w.1.head m.body)
 
-  has_head : (bytes : List ℕ) (m : Message S) (used : ℕ) → IsWhole IsFirstLine may_have bytes m used → HasHead IsFirstLine may_have bytes
+  has_head : (bytes : List ℕ) (m : TextMessage S) (used : ℕ) → IsWhole IsFirstLine may_have bytes m used → HasHead IsFirstLine may_have bytes
   has_head bytes m used w = (w.1.head, m.body ++ drop used bytes, m.start, m.headers, length m.body, w.1.is_head, whole_head bytes m used w)
 
-  has_limited_head : (bytes : List ℕ) (m : Message S) (used : ℕ) → IsWhole IsFirstLine may_have bytes m used
+  has_limited_head : (bytes : List ℕ) (m : TextMessage S) (used : ℕ) → IsWhole IsFirstLine may_have bytes m used
       → HasHead IsFirstLine may_have (take most_head bytes)
   has_limited_head bytes m used w =
       let e = whole_head bytes m used w in
@@ -123,7 +122,8 @@ module _ {S : Type 0} (IsFirstLine : List ℕ → S → Type 0) (may_have : ℕ 
 
   -- ---- one answer
 
-  whole_not_bad : (bytes : List ℕ) (m : Message S) (used place : ℕ) → IsWhole IsFirstLine may_have bytes m used → IsBadPlace IsFirstLine may_have bytes place
+  whole_not_bad : (bytes : List ℕ) (m : TextMessage S) (used place : ℕ) → IsWhole IsFirstLine may_have bytes m used
+      → IsBadPlace IsFirstLine may_have bytes place
       → ⊥
   whole_not_bad bytes m used place w (inl b) = b.never (head_front (suc place) bytes (has_head bytes m used w))
   whole_not_bad bytes m used place w (inr b) = b.1.endless (has_limited_head bytes m used w)
@@ -144,7 +144,7 @@ module _ {S : Type 0} (IsFirstLine : List ℕ → S → Type 0) (may_have : ℕ 
   bad_same bytes j k (inr p) (inl q) = absurd (wrong_first bytes k most_head q p.1.before q.limit)
   bad_same bytes j k (inr p) (inr q) = p.0 ∙ sym q.0
 
-  whole_same : (bytes : List ℕ) (m n : Message S) (j k : ℕ) → IsWhole IsFirstLine may_have bytes m j → IsWhole IsFirstLine may_have bytes n k
+  whole_same : (bytes : List ℕ) (m n : TextMessage S) (j k : ℕ) → IsWhole IsFirstLine may_have bytes m j → IsWhole IsFirstLine may_have bytes n k
       → Whole m j ≡ Whole n k
   whole_same bytes m n j k p q =
       let s = head_same p.1.head q.1.head (m.body ++ drop j bytes) (n.body ++ drop k bytes) m.start n.start m.headers n.headers (length m.body)
@@ -152,7 +152,7 @@ module _ {S : Type 0} (IsFirstLine : List ℕ → S → Type 0) (may_have : ℕ 
       let used : j ≡ k = omega (arith, whole_used bytes m j p, whole_used bytes n k q, ap length s.head, s.body) in
       let texts : p.1.head ++ m.body ≡ p.1.head ++ n.body = sym p.1.parts ∙ ap (λ (i : ℕ). take i bytes) used ∙ q.1.parts
       ∙ ap (λ (u : List ℕ). u ++ n.body) (sym s.head) in
-      ap (λ (x : Message S). Whole x j) (message_same m n s.start s.headers (append-cancel p.1.head m.body n.body texts)) ∙ ap (Whole n) used
+      ap (λ (x : TextMessage S). Whole x j) (message_same m n s.start s.headers (append_cancel_left p.1.head m.body n.body texts)) ∙ ap (Whole n) used
 
   pub one_answer : HasOneAnswer IsFirstLine may_have
   one_answer bytes (Whole m j) (Whole n k) p q = whole_same bytes m n j k p q
@@ -212,16 +212,16 @@ module _ {S : Type 0} (IsFirstLine : List ℕ → S → Type 0) (may_have : ℕ 
   not_bad_with_head bytes h limited place (inr b) = b.1.endless limited
 
   -- what was read of the front stands in front of all bytes
-  head_parts : (bytes : List ℕ) (x : Head S) (rest : List ℕ) (h : HeadTaken IsFirstLine may_have code (take most_head bytes) x rest)
+  head_parts : (bytes : List ℕ) (x : MessageHead S) (rest : List ℕ) (h : HeadTaken IsFirstLine may_have code (take most_head bytes) x rest)
       → bytes ≡ h.head ++ (rest ++ drop most_head bytes)
   head_parts bytes x rest h = sym (limit_parts bytes) ∙ ap (λ (u : List ℕ). u ++ drop most_head bytes) h.parts
       ∙ append_assoc h.head rest (drop most_head bytes)
 
-  head_place : (bytes : List ℕ) (x : Head S) (rest : List ℕ) (h : HeadTaken IsFirstLine may_have code (take most_head bytes) x rest)
+  head_place : (bytes : List ℕ) (x : MessageHead S) (rest : List ℕ) (h : HeadTaken IsFirstLine may_have code (take most_head bytes) x rest)
       → length (take most_head bytes) - length rest ≡ length h.head
   head_place bytes x rest h = omega (arith, ap length h.parts, length-append h.head rest)
 
-  message_right : (bytes : List ℕ) (x : Head S) (rest : List ℕ) (h : HeadTaken IsFirstLine may_have code (take most_head bytes) x rest)
+  message_right : (bytes : List ℕ) (x : MessageHead S) (rest : List ℕ) (h : HeadTaken IsFirstLine may_have code (take most_head bytes) x rest)
       (place : ℕ) → place ≡ length h.head → place + x.size ≤ length bytes
       → IsMessage IsFirstLine may_have (take (place + x.size) bytes) (made x.start x.headers (take x.size (drop place bytes)))
   message_right bytes x rest h place e le =
@@ -235,7 +235,7 @@ module _ {S : Type 0} (IsFirstLine : List ℕ → S → Type 0) (may_have : ℕ 
         parts = take-add place x.size bytes ∙ ap (λ (u : List ℕ). u ++ take x.size (drop place bytes)) front;
       }
 
-  head_right : (bytes : List ℕ) (x : Head S) (rest : List ℕ) → HeadTaken IsFirstLine may_have code (take most_head bytes) x rest → (t : Bool)
+  head_right : (bytes : List ℕ) (x : MessageHead S) (rest : List ℕ) → HeadTaken IsFirstLine may_have code (take most_head bytes) x rest → (t : Bool)
       → leb (length (take most_head bytes) - length rest + x.size) (length bytes) ≡ t
       → IsAnswer IsFirstLine may_have bytes (cond t (Whole (made x.start x.headers (take x.size (drop (length (take most_head bytes) - length rest) bytes)))
       (length (take most_head bytes) - length rest + x.size)) More)
@@ -249,7 +249,7 @@ module _ {S : Type 0} (IsFirstLine : List ℕ → S → Type 0) (may_have : ℕ 
         (h.head, rest, x.start, x.headers, x.size, h.is_head, h.parts);
   }
     where
-      not_whole : (m : Message S) (used : ℕ) → IsWhole IsFirstLine may_have bytes m used → ⊥
+      not_whole : (m : TextMessage S) (used : ℕ) → IsWhole IsFirstLine may_have bytes m used → ⊥
       not_whole m used w =
           let s = head_same h.head w.1.head (rest ++ drop most_head bytes) (m.body ++ drop used bytes) x.start m.start x.headers m.headers x.size
           (length m.body) h.is_head w.1.is_head (sym (head_parts bytes x rest h) ∙ whole_head bytes m used w) in
@@ -297,8 +297,8 @@ module _ {S : Type 0} (IsFirstLine : List ℕ → S → Type 0) (may_have : ℕ 
       not_bad place (inl b) = wrong_first bytes place most_head b m.begins b.limit
       not_bad place (inr b) = let short : length bytes < most_head = grind (arith, nat_tests) in omega (arith, b.1.long)
 
-  pub answer_right : (bytes : List ℕ) (r : Result (Head S × List ℕ) Stop) → MeetsHead IsFirstLine may_have code (take most_head bytes) r
-      → IsAnswer IsFirstLine may_have bytes (answer_by bytes r)
+  pub answer_right : (bytes : List ℕ) (r : Result (MessageHead S × List ℕ) Stop) → MeetsHead IsFirstLine may_have code (take most_head bytes) r
+      → IsAnswer IsFirstLine may_have bytes (text_answer bytes r)
   answer_right bytes (Ok x) m = head_right bytes x.0 x.1 m (leb (length (take most_head bytes) - length x.1 + x.0.size) (length bytes)) refl
   answer_right bytes (Err stop_more) m = open_right bytes m (leb most_head (length bytes)) refl
   answer_right bytes (Err (Bad left)) m = bad_right bytes left m
@@ -308,10 +308,10 @@ module _ {S : Type 0} (IsFirstLine : List ℕ → S → Type 0) (may_have : ℕ 
   left_within : (s : List ℕ) (left : ℕ) → HeadStops IsFirstLine may_have code s left → left ≤ length s
   left_within s left m = omega (arith, ap length m.parts, length-append m.front (m.byte ∷ m.rest), m.left_is)
 
-  rest_within : (s : List ℕ) (x : Head S) (rest : List ℕ) → HeadTaken IsFirstLine may_have code s x rest → length rest ≤ length s
+  rest_within : (s : List ℕ) (x : MessageHead S) (rest : List ℕ) → HeadTaken IsFirstLine may_have code s x rest → length rest ≤ length s
   rest_within s x rest h = omega (arith, ap length h.parts, length-append h.head rest)
 
   module _ (first : List ℕ → Result (S × List ℕ) Stop) (meets : (s : List ℕ) → Meets IsFirstLine s (first s)) where
-    pub reading_right : (bytes : List ℕ) → IsAnswer IsFirstLine may_have bytes (answer_by bytes (head_by first may_have (take most_head bytes)))
+    pub reading_right : (bytes : List ℕ) → IsAnswer IsFirstLine may_have bytes (text_answer bytes (head_by first may_have (take most_head bytes)))
     reading_right bytes = answer_right bytes (head_by first may_have (take most_head bytes))
         (head_meets IsFirstLine may_have code first meets (take most_head bytes))

@@ -9,7 +9,7 @@ use Rattle.std.proofs.lemmas.Bool.Decides.{nat_tests}
 use Rattle.gs_rtsp_text.specs.declared.header.Header.{Header}
 use Rattle.gs_rtsp_text.specs.declared.stop.Stop.{Stop}
 use Rattle.gs_bytes.specs.Words.{trimmed, is_space, spaces}
-use Rattle.gs_rtsp_text.specs.Bytes.{crlf, is_name_byte, is_value_byte, is_sequence_number, IsRun}
+use Rattle.gs_rtsp_text.specs.Bytes.{crlf, is_name_byte, is_value_byte, is_sequence_number, IsRunOfBytes}
 use Rattle.gs_bytes.specs.Numbers.{is_digit}
 use Rattle.gs_rtsp_text.specs.Lines.{is_cseq, IsHeaderLine}
 use Rattle.gs_bytes.specs.Words.{HasNoOuterSpace}
@@ -171,7 +171,7 @@ line_from_parts w h p =
     let v = p.second.0 in
     let name-is : h.name ≡ p.value = p.second.1 in (
       record {
-        name = subst (IsRun is_name_byte) (sym name-is) (p.first.some refl, p.first.each);
+        name = subst (IsRunOfBytes is_name_byte) (sym name-is) (p.first.some refl, p.first.each);
         value = v.each;
         outer = v.outer;
         sequence = λ e. v.sequence (ap is_cseq (sym name-is) ∙ e);
@@ -231,7 +231,7 @@ header_code a b x y m n p q e =
 pub header_first : (b : ℕ) (w : List ℕ) (h : Header) → IsHeaderLine (b ∷ w) h → is_name_byte b ≡ true
 header_first b w h l = by_name h.name l.0.name l.3
   where
-    by_name : (name : List ℕ) → IsRun is_name_byte name → b ∷ w ≡ name ++ 58 ∷ (spaces l.1 ++ h.value ++ spaces l.2 ++ crlf) → is_name_byte b ≡ true
+    by_name : (name : List ℕ) → IsRunOfBytes is_name_byte name → b ∷ w ≡ name ++ 58 ∷ (spaces l.1 ++ h.value ++ spaces l.2 ++ crlf) → is_name_byte b ≡ true
     by_name [] r e = absurd (r.0 refl)
     by_name (c ∷ name) r e =
         let byte : b ≡ c = cc in
@@ -240,6 +240,6 @@ header_first b w h l = by_name h.name l.0.name l.3
 pub header_some : (w : List ℕ) (h : Header) → IsHeaderLine w h → w ≡ [] → ⊥
 header_some w h l e = by_name h.name l.0.name (sym l.3 ∙ e)
   where
-    by_name : (name : List ℕ) → IsRun is_name_byte name → name ++ 58 ∷ (spaces l.1 ++ h.value ++ spaces l.2 ++ crlf) ≡ [] → ⊥
+    by_name : (name : List ℕ) → IsRunOfBytes is_name_byte name → name ++ 58 ∷ (spaces l.1 ++ h.value ++ spaces l.2 ++ crlf) ≡ [] → ⊥
     by_name [] r e = r.0 refl
     by_name (c ∷ name) r e = cc

@@ -1,23 +1,23 @@
 -- Heads are read exactly, and the answer to any bytes is right.
 use Rattle.std.proofs.Common.{◌≡◌, ℕ, suc, Bool, true, false, cond, List, [], ◌∷◌, ◌++◌, length, Option, Some, None, Result, Ok, Err, refl, sym, ap, subst, ◌∙◌}
 use Rattle.std.proofs.Common.{append_assoc, inl, inr, ◌⊎◌}
-use Rattle.std.proofs.lemmas.List.{append-nil}
+use Rattle.std.proofs.lemmas.List.{append-nil, append_cancel_left}
 use Rattle.gs_rtsp_text.specs.declared.header.Header.{Header}
 use Rattle.gs_rtsp_text.specs.declared.stop.Stop.{Stop}
 use Rattle.gs_rtsp_text.specs.declared.stop.Stop.TheVariants.{More, Bad}
 use Rattle.gs_rtsp_text.specs.Bytes.{crlf}
 use Rattle.gs_rtsp_text.specs.Lines.{AreHeaderLines, cseq_count, body_length}
 use Rattle.gs_rtsp_text.specs.Message.{AreLines, IsHead, HasHead, CanBegin}
-use Rattle.gs_rtsp_text.specs.Reading.{Head, HeadFields, fields, with_start}
+use Rattle.gs_rtsp_text.specs.Reading.{MessageHead, HeadFields, head_fields, with_start}
 use Rattle.gs_rtsp_text.specs.Reading.{◌>>=◌, rest_of_head, head_by}
-use Rattle.gs_rtsp_text.proofs.Parts.{Opens, StopsAt, Takes, Meets, IsCode, inside, stopped, append-cancel}
+use Rattle.gs_rtsp_text.proofs.Parts.{Opens, StopsAt, Takes, Meets, IsCode, inside, stopped}
 use Rattle.gs_rtsp_text.proofs.Rest.{IsRest, Goes, MeetsRest, rest_meets}
 
 module _ {S : Type 0} (IsFirstLine : List ℕ → S → Type 0) (may_have : ℕ → Bool) (code : IsCode IsFirstLine) where
   abbrev Begins : List ℕ → Type 0
   Begins s = AreLines IsFirstLine may_have s ⊎ HasHead IsFirstLine may_have s
 
-  pub record HeadTaken (s : List ℕ) (x : Head S) (rest : List ℕ) : Type 0 where
+  pub record HeadTaken (s : List ℕ) (x : MessageHead S) (rest : List ℕ) : Type 0 where
     pub head : List ℕ
     pub is_head : IsHead IsFirstLine may_have head x.start x.headers x.size
     pub parts : s ≡ head ++ rest
@@ -35,7 +35,7 @@ module _ {S : Type 0} (IsFirstLine : List ℕ → S → Type 0) (may_have : ℕ 
     pub begins : CanBegin IsFirstLine may_have front
     pub never : CanBegin IsFirstLine may_have (front ++ byte ∷ []) → ⊥
 
-  abbrev pub MeetsHead : List ℕ → Result (Head S × List ℕ) Stop → Type 0
+  abbrev pub MeetsHead : List ℕ → Result (MessageHead S × List ℕ) Stop → Type 0
   MeetsHead s (Ok x) = HeadTaken s x.0 x.1
   MeetsHead s (Err More) = HeadOpens s
   MeetsHead s (Err (Bad left)) = HeadStops s left
@@ -59,7 +59,7 @@ module _ {S : Type 0} (IsFirstLine : List ℕ → S → Type 0) (may_have : ℕ 
       }
 
   rest_from_head : (head : List ℕ) (start : S) (hs : List Header) (n : ℕ) (h : IsHead IsFirstLine may_have head start hs n)
-      → IsRest may_have [] (h.lines ++ crlf) (fields hs n)
+      → IsRest may_have [] (h.lines ++ crlf) (head_fields hs n)
   rest_from_head head start hs n h = record {
     new = hs;
     lines = h.lines;
@@ -88,16 +88,16 @@ module _ {S : Type 0} (IsFirstLine : List ℕ → S → Type 0) (may_have : ℕ 
       let whole : line ++ s ≡ h.first ++ ((h.lines ++ crlf) ++ rest) = e ∙ ap (λ (u : List ℕ). u ++ rest) (h.parts ∙ append_assoc h.first h.lines crlf)
       ∙ append_assoc h.first (h.lines ++ crlf) rest in
       let same = code line h.first s ((h.lines ++ crlf) ++ rest) start other l h.first_line whole in
-      (same.0, same.1, append-cancel line s ((h.lines ++ crlf) ++ rest) (whole ∙ ap (λ (u : List ℕ). u ++ ((h.lines ++ crlf) ++ rest)) (sym same.0)))
+      (same.0, same.1, append_cancel_left line s ((h.lines ++ crlf) ++ rest) (whole ∙ ap (λ (u : List ℕ). u ++ ((h.lines ++ crlf) ++ rest)) (sym same.0)))
 
   begins_to_goes : (line : List ℕ) (start : S) → IsFirstLine line start → (s : List ℕ) → Begins (line ++ s) → Goes may_have [] s
   begins_to_goes line start l s (inl g) =
       let same = code line g.0 s g.1 start g.2 l g.4 g.6 in
-      let rest-is : s ≡ g.1 = append-cancel line s g.1 (g.6 ∙ ap (λ (u : List ℕ). u ++ g.1) (sym same.0)) in
+      let rest-is : s ≡ g.1 = append_cancel_left line s g.1 (g.6 ∙ ap (λ (u : List ℕ). u ++ g.1) (sym same.0)) in
       inl (g.3, subst (λ (u : List ℕ). AreHeaderLines u g.3) (sym rest-is) g.5)
   begins_to_goes line start l s (inr g) =
       let p = head_parts line start l s g.1 g.0 g.2 g.3 g.4 g.5 g.6 in
-      inr (g.5.lines ++ crlf, g.1, fields g.3 g.4, rest_from_head g.0 g.2 g.3 g.4 g.5, p.2)
+      inr (g.5.lines ++ crlf, g.1, head_fields g.3 g.4, rest_from_head g.0 g.2 g.3 g.4 g.5, p.2)
 
   behind_first : (s : List ℕ) (start : S) (rest : List ℕ) → Takes IsFirstLine s start rest → (r : Result (HeadFields × List ℕ) Stop)
       → MeetsRest may_have [] rest r → MeetsHead s (r >>= λ x. Ok (with_start start x))
@@ -114,7 +114,7 @@ module _ {S : Type 0} (IsFirstLine : List ℕ → S → Type 0) (may_have : ℕ 
     );
     unended = λ g.
         let p = head_parts t.taken start t.word rest g.1 g.0 g.2 g.3 g.4 g.5 (sym t.parts ∙ g.6) in
-        m.unended (g.5.lines ++ crlf) g.1 (fields g.3 g.4) (rest_from_head g.0 g.2 g.3 g.4 g.5) p.2;
+        m.unended (g.5.lines ++ crlf) g.1 (head_fields g.3 g.4) (rest_from_head g.0 g.2 g.3 g.4 g.5) p.2;
   }
   behind_first s start rest t (Err (Bad left)) m = record {
     front = t.taken ++ m.front;

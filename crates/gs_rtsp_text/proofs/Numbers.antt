@@ -9,7 +9,7 @@ use Rattle.gs_rtsp_text.specs.declared.stop.Stop.TheVariants.{More, Bad}
 use Rattle.gs_bytes.specs.Words.{without_first_spaces, is_space, spaces}
 use Rattle.gs_bytes.specs.Numbers.{is_digit, number_from, number_of}
 use Rattle.gs_rtsp_text.specs.Bytes.{is_sequence_number}
-use Rattle.gs_rtsp_text.specs.Reading.{◌>>=◌, with_first, literal_at, token_at, digits_at, number_at, sequence_at}
+use Rattle.gs_rtsp_text.specs.Reading.{◌>>=◌, with_first, literal_at, token_at, digits_at, decimal_at, sequence_at}
 use Rattle.gs_rtsp_text.proofs.Parts.{Opens, Meets, Then, meets_more, meets_none, meets_at, then_meets, read_same}
 use Rattle.gs_bytes.proofs.SpaceLemmas.{without_first-cons}
 use Rattle.gs_rtsp_text.proofs.Tokens.{Exactly, Token, token_meets, token_code, literal_meets, literal_as, exactly_some}
@@ -332,7 +332,7 @@ number_choose : (b : ℕ) (s : List ℕ) (t : Bool) → cond t (with_first b (di
 number_choose b s true = ap (with_first b) (digits_same (b - 48) s) ∙ digits_first b (digits_at (b - 48) s)
 number_choose b s false = refl
 
-number_same : (s : List ℕ) → number_to_end s ≡ (number_at s >>= after_digits)
+number_same : (s : List ℕ) → number_to_end s ≡ (decimal_at s >>= after_digits)
 number_same [] = refl
 number_same (b ∷ s) = number_choose b s (is_digit b)
 

@@ -2,7 +2,7 @@
 -- a word stop as such, and a byte with which no word goes on is named.
 use Rattle.std.proofs.Common.{◌≡◌, ℕ, suc, List, [], ◌∷◌, ◌++◌, length, Result, Ok, Err, refl, sym, ap, subst, ◌∙◌, append_assoc, arith, inl, inr, ◌⊎◌}
 use Rattle.std.proofs.Common.{length-append}
-use Rattle.std.proofs.lemmas.List.{append-nil}
+use Rattle.std.proofs.lemmas.List.{append-nil, append_cancel_left}
 use Rattle.gs_rtsp_text.specs.declared.stop.Stop.{Stop}
 use Rattle.gs_rtsp_text.specs.declared.stop.Stop.TheVariants.{More, Bad}
 use Rattle.gs_rtsp_text.specs.Reading.{◌>>=◌}
@@ -143,10 +143,6 @@ split (c ∷ a) (d ∷ b) x y e =
       | inr h ↦ inr (h.0, h.1, cc, h.3)
     ]
 
-pub append-cancel : (a x y : List ℕ) → a ++ x ≡ a ++ y → x ≡ y
-append-cancel [] x y e = e
-append-cancel (c ∷ a) x y e = append-cancel a x y cc
-
 -- a word of a code that begins a list which stops inside a word: that can't be
 pub inside : {A : Type 0} (L : List ℕ → A → Type 0) → IsCode L → (s w v : List ℕ) (x : A) → Opens L s → L w x → s ≡ w ++ v → ⊥
 inside L code s w v x o l e =
@@ -212,7 +208,7 @@ then_ok {A} L1 L2 code s x rest t (Err (Bad left)) m = record {
   };
   never = λ q y w.
       let same = code t.taken w.front (m.front ++ m.byte ∷ q) w.back x w.value t.word w.first (sym (append_assoc t.taken m.front (m.byte ∷ q)) ∙ w.parts) in
-      let back_is : w.back ≡ m.front ++ m.byte ∷ q = append-cancel t.taken w.back (m.front ++ m.byte ∷ q)
+      let back_is : w.back ≡ m.front ++ m.byte ∷ q = append_cancel_left t.taken w.back (m.front ++ m.byte ∷ q)
       (ap (λ (u : List ℕ). u ++ w.back) same.0 ∙ sym w.parts ∙ append_assoc t.taken m.front (m.byte ∷ q)) in
       m.never q y (subst (λ (v : A). L2 v (m.front ++ m.byte ∷ q) y) (sym same.1) (subst (λ (u : List ℕ). L2 w.value u y) back_is w.second));
 }
@@ -266,7 +262,7 @@ then_code {A} L1 L2 code1 code2 a b x y m n p q e =
     let same = code1 p.front q.front (p.back ++ x) (q.back ++ y) p.value q.value p.first q.first
     (sym (append_assoc p.front p.back x) ∙ ap (λ (t : List ℕ). t ++ x) (sym p.parts) ∙ e ∙ ap (λ (t : List ℕ). t ++ y) q.parts
     ∙ append_assoc q.front q.back y) in
-    let tails = append-cancel p.front (p.back ++ x) (q.back ++ y)
+    let tails = append_cancel_left p.front (p.back ++ x) (q.back ++ y)
     (sym (append_assoc p.front p.back x) ∙ ap (λ (t : List ℕ). t ++ x) (sym p.parts) ∙ e ∙ ap (λ (t : List ℕ). t ++ y) q.parts
     ∙ append_assoc q.front q.back y ∙ ap (λ (t : List ℕ). t ++ (q.back ++ y)) (sym same.0)) in
     let backs = code2 p.value p.back q.back x y m n p.second (subst (λ (v : A). L2 v q.back n) (sym same.1) q.second) tails in

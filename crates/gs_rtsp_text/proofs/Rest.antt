@@ -1,7 +1,7 @@
 -- The rest of a head behind its first line is read exactly: header lines and the empty line.
 use Rattle.std.proofs.Common.{◌≡◌, ℕ, zero, suc, ◌<◌, ◌≤◌, Bool, true, false, cond, List, [], ◌∷◌, ◌++◌, length, Option, Some, None, Result, Ok, Err, refl, sym}
 use Rattle.std.proofs.Common.{ap, subst, ◌∙◌, append_assoc, arith, inl, inr, ◌⊎◌, length-append}
-use Rattle.std.proofs.lemmas.List.{append-nil}
+use Rattle.std.proofs.lemmas.List.{append-nil, append_cancel_left}
 use Rattle.std.proofs.lemmas.Bool.{false≢true}
 use Rattle.std.proofs.lemmas.Bool.Decides.{nat_tests}
 use Rattle.gs_rtsp_text.specs.declared.header.Header.{Header}
@@ -9,9 +9,9 @@ use Rattle.gs_rtsp_text.specs.declared.stop.Stop.{Stop}
 use Rattle.gs_rtsp_text.specs.declared.stop.Stop.TheVariants.{More, Bad}
 use Rattle.gs_rtsp_text.specs.Bytes.{crlf, is_name_byte}
 use Rattle.gs_rtsp_text.specs.Lines.{IsHeaderLine, AreHeaderLines}
-use Rattle.gs_rtsp_text.specs.Reading.{HeadFields, fields}
+use Rattle.gs_rtsp_text.specs.Reading.{HeadFields, head_fields}
 use Rattle.gs_rtsp_text.specs.Reading.{◌>>=◌, header_at, length_if_right, empty_line_at, begins_with_cr, lines_at, rest_of_head}
-use Rattle.gs_rtsp_text.proofs.Parts.{Opens, StopsAt, Takes, Meets, inside, stopped, append-cancel}
+use Rattle.gs_rtsp_text.proofs.Parts.{Opens, StopsAt, Takes, Meets, inside, stopped}
 use Rattle.gs_rtsp_text.proofs.Tokens.{Exactly, literal_meets, literal_as, exactly_code}
 use Rattle.gs_rtsp_text.proofs.HeaderLines.{header_meets, header_code, header_first, header_some}
 
@@ -85,7 +85,7 @@ module _ (may_have : ℕ → Bool) where
 
   -- ---- the empty line
 
-  ends_now : (hs : List Header) (n : ℕ) → length_if_right may_have hs ≡ Some n → IsRest hs crlf (fields hs n)
+  ends_now : (hs : List Header) (n : ℕ) → length_if_right may_have hs ≡ Some n → IsRest hs crlf (head_fields hs n)
   ends_now hs n r = record { new = []; lines = []; header_lines = refl; parts = refl; headers = sym (append-nil hs); right = r }
 
   crlf_in : (w : List ℕ) (x : HeadFields) (hs : List Header) → IsRest hs w x → 2 ≤ length w
@@ -112,11 +112,11 @@ module _ (may_have : ℕ → Bool) where
   front_cr q (c ∷ front) byte rest v e = (front ++ byte ∷ v, ap (λ (d : ℕ). d ∷ (front ++ byte ∷ v)) cc)
 
   empty_meets : (hs : List Header) (n : ℕ) (q : List ℕ) → length_if_right may_have hs ≡ Some n → (r : Result (HeadFields × List ℕ) Stop)
-      → Meets (Exactly crlf (fields hs n)) (13 ∷ q) r → MeetsRest hs (13 ∷ q) r
+      → Meets (Exactly crlf (head_fields hs n)) (13 ∷ q) r → MeetsRest hs (13 ∷ q) r
   empty_meets hs n q right (Ok x) m = record { taken = m.taken; word = rw (m.word.word, m.word.value_is) (ends_now hs n right); parts = m.parts }
   empty_meets hs n q right (Err More) m = record {
     more = m.next ∷ m.more;
-    begins = inr (crlf, [], fields hs n, ends_now hs n right, m.word.word);
+    begins = inr (crlf, [], head_fields hs n, ends_now hs n right, m.word.word);
     unended = λ w v x r e. absurd (omega (
       arith,
       ap length e,
@@ -133,17 +133,17 @@ module _ (may_have : ℕ → Bool) where
     parts = m.parts;
     left_is = m.left_is;
     more = m.begins.next ∷ m.begins.more;
-    begins = inr (crlf, [], fields hs n, ends_now hs n right, m.begins.word.word);
+    begins = inr (crlf, [], head_fields hs n, ends_now hs n right, m.begins.word.word);
     never = λ v g.
         let c = front_cr q m.front m.byte m.rest v m.parts in
         let e = goes_with_cr hs c.0 (subst (Goes hs) c.1 g) in
-        let x = fields hs n in
+        let x = head_fields hs n in
         stopped (Exactly crlf x) (exactly_code crlf x) (13 ∷ q) left m v crlf e.0 x (record { word = refl; value_is = refl }) (c.1 ∙ e.1);
   }
 
   right_meets : (hs : List Header) (q : List ℕ) (o : Option ℕ) → length_if_right may_have hs ≡ o → MeetsRest hs (13 ∷ q) (empty_line_at hs o (13 ∷ q))
   right_meets hs q None e = wrong_here hs q e
-  right_meets hs q (Some n) e = empty_meets hs n q e (literal_as crlf (fields hs n) (13 ∷ q)) (literal_meets crlf (fields hs n) (13 ∷ q))
+  right_meets hs q (Some n) e = empty_meets hs n q e (literal_as crlf (head_fields hs n) (13 ∷ q)) (literal_meets crlf (head_fields hs n) (13 ∷ q))
 
   -- ---- a header line, and the rest behind it
 
@@ -195,14 +195,14 @@ module _ (may_have : ℕ → Bool) where
           headers = hd ∙ ap (λ (k : Header). hs ++ k ∷ new) (sym same.1) ∙ sym (append_assoc hs (h ∷ []) new);
           right = r;
         },
-        append-cancel line s ((ls.1 ++ crlf) ++ v) (whole ∙ ap (λ (u : List ℕ). u ++ ((ls.1 ++ crlf) ++ v)) (sym same.0)),
+        append_cancel_left line s ((ls.1 ++ crlf) ++ v) (whole ∙ ap (λ (u : List ℕ). u ++ ((ls.1 ++ crlf) ++ v)) (sym same.0)),
       )
 
   goes_less : (hs : List Header) (line : List ℕ) (h : Header) → IsHeaderLine line h → (s : List ℕ) → Goes hs (line ++ s) → Goes (hs ++ h ∷ []) s
   goes_less hs line h l s (inl ([], g)) = absurd (line_some line s h l g)
   goes_less hs line h l s (inl (i ∷ new, g)) =
       let same = header_code line g.0 s g.1 h i l g.2 g.4 in
-      inl (new, subst (λ (u : List ℕ). AreHeaderLines u new) (sym (append-cancel line s g.1 (g.4 ∙ ap (λ (u : List ℕ). u ++ g.1) (sym same.0)))) g.3)
+      inl (new, subst (λ (u : List ℕ). AreHeaderLines u new) (sym (append_cancel_left line s g.1 (g.4 ∙ ap (λ (u : List ℕ). u ++ g.1) (sym same.0)))) g.3)
   goes_less hs line h l s (inr g) =
       let r = g.3 in
       let k = rest_less hs line h l s g.0 g.1 g.2 r.new r.lines r.header_lines r.parts r.headers r.right g.4 in

@@ -3,7 +3,7 @@ use Rattle.std.proofs.Common.{◌≡◌, ℕ, zero, suc, ◌+◌, ◌<◌, ◌�
 use Rattle.std.proofs.lemmas.List.{drop_all}
 use Rattle.gs_rtsp_text.specs.declared.stop.Stop.{Stop}
 use Rattle.gs_rtsp_text.specs.declared.stop.Stop.TheVariants.{More}
-use Rattle.gs_rtsp_text.specs.Reading.{◌>>=◌, literal_at, digits_at, number_at}
+use Rattle.gs_rtsp_text.specs.Reading.{◌>>=◌, literal_at, digits_at, decimal_at}
 
 -- the rest from a place is the byte there, and the rest behind it
 pub rest_at : (s : List ℕ) (i : ℕ) → i < length s → drop i s ≡ get_or s i 0 ∷ drop (i + 1) s
@@ -27,5 +27,5 @@ with_front front read = read >>= λ x. Ok (front ++ x.0, x.1)
 
 -- what is still read behind i digits that stand for a value
 abbrev pub number_behind : ℕ → ℕ → List ℕ → Result (List ℕ × List ℕ) Stop
-number_behind zero value s = number_at s
+number_behind zero value s = decimal_at s
 number_behind (suc i) value s = digits_at value s

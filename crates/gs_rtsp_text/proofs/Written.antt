@@ -8,9 +8,9 @@ use Rattle.std.proofs.lemmas.List.{append-nil, take_at}
 use Rattle.gs_rtsp_text.specs.declared.header.Header.{Header}
 use Rattle.gs_rtsp_text.specs.declared.message.Method.{Method}
 use Rattle.gs_rtsp_text.specs.declared.message.Response.{Response}
-use Rattle.gs_rtsp_text.specs.Bytes.{crlf, is_value_byte, is_target_byte, IsRun}
+use Rattle.gs_rtsp_text.specs.Bytes.{crlf, is_value_byte, is_target_byte, IsRunOfBytes}
 use Rattle.gs_rtsp_text.specs.Lines.{IsHeader, IsHeaderLine, AreHeaderLines, IsRequestLine, IsStatusLine, method_name, three_digits}
-use Rattle.gs_rtsp_text.specs.Message.{Message, IsMessage, IsWhole, is_one, is_at_most_one, request_message, response_message}
+use Rattle.gs_rtsp_text.specs.Message.{TextMessage, IsMessage, IsWhole, is_one, is_at_most_one, request_message, response_message}
 use Rattle.gs_rtsp_text.specs.Writing.{header_text, request_line_text, status_line_text, reason_of, head_text, AreRightHeaders, IsSendableResponse}
 use Rattle.gs_rtsp_text.specs.Writing.{RequestIsReadAgain, ResponseIsReadAgain}
 
@@ -27,7 +27,7 @@ header_lines : (hs : List Header) → AllByRecursion IsHeader hs → AreHeaderLi
 header_lines [] a = refl
 header_lines (h ∷ hs) a = (header_text h, flat_map header_text hs, header_line h a.0, header_lines hs a.1, refl)
 
-request_line : (m : Method) (t : List ℕ) → IsRun is_target_byte t → IsRequestLine (request_line_text m t) (m, t)
+request_line : (m : Method) (t : List ℕ) → IsRunOfBytes is_target_byte t → IsRequestLine (request_line_text m t) (m, t)
 request_line m t r = (
   r,
   ap (λ (u : List ℕ). u ++ codes " RTSP/1.0" ++ crlf) (append_assoc (method_name m) (codes " ") t)
@@ -51,7 +51,7 @@ status_line code i =
     (r.0, reason_of code, r.1, ap (λ (u : List ℕ). u ++ crlf) (append_assoc front (codes " ") (reason_of code)) ∙ append_assoc front (32 ∷ reason_of code) crlf)
 
 module _ {S : Type 0} (IsFirstLine : List ℕ → S → Type 0) (may_have : ℕ → Bool) where
-  message_text : (first : List ℕ) (m : Message S) → IsFirstLine first m.start → AreRightHeaders may_have first m.headers m.body
+  message_text : (first : List ℕ) (m : TextMessage S) → IsFirstLine first m.start → AreRightHeaders may_have first m.headers m.body
       → IsMessage IsFirstLine may_have (head_text first m.headers ++ m.body) m
   message_text first m l r = record {
     head = head_text first m.headers;
@@ -68,7 +68,7 @@ module _ {S : Type 0} (IsFirstLine : List ℕ → S → Type 0) (may_have : ℕ 
     parts = refl;
   }
 
-  read_again : (first : List ℕ) (m : Message S) (more : List ℕ) → IsFirstLine first m.start → AreRightHeaders may_have first m.headers m.body
+  read_again : (first : List ℕ) (m : TextMessage S) (more : List ℕ) → IsFirstLine first m.start → AreRightHeaders may_have first m.headers m.body
       → IsWhole IsFirstLine may_have ((head_text first m.headers ++ m.body) ++ more) m (length (head_text first m.headers ++ m.body))
   read_again first m more l r =
       let text = head_text first m.headers ++ m.body in (

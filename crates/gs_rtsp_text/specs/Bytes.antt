@@ -32,8 +32,8 @@ class_test Value = is_value_byte
 class_test Space = is_space
 
 -- one byte or more, and each of them passes
-abbrev pub IsRun : (ℕ → Bool) → List ℕ → Type 0
-IsRun passes bytes = (bytes ≡ [] → ⊥) × IsTrue (list_all passes bytes)
+abbrev pub IsRunOfBytes : (ℕ → Bool) → List ℕ → Type 0
+IsRunOfBytes passes bytes = (bytes ≡ [] → ⊥) × IsTrue (list_all passes bytes)
 
 -- the number of a CSeq: decimal, below 2 ^ 31
 abbrev pub is_sequence_number : List ℕ → Bool

@@ -8,7 +8,8 @@ use Rattle.gs_rtsp_text.specs.declared.limits.TheConstants.{MOST_BODY}
 use Rattle.gs_rtsp_text.specs.declared.header.Header.{Header}
 use Rattle.gs_rtsp_text.specs.declared.message.Method.{Method}
 use Rattle.gs_rtsp_text.specs.declared.message.Method.TheVariants.{Options, Describe, Setup, Announce, Play}
-use Rattle.gs_rtsp_text.specs.Bytes.{crlf, is_name_byte, is_value_byte, is_target_byte, IsRun, is_sequence_number}
+use Rattle.gs_rtsp_text.specs.Bytes.{crlf, is_name_byte, is_value_byte, is_target_byte, IsRunOfBytes}
+use Rattle.gs_rtsp_text.specs.Bytes.{is_sequence_number}
 use Rattle.gs_bytes.specs.Words.{HasNoOuterSpace, spaces}
 use Rattle.gs_bytes.specs.Numbers.{decimal_up_to}
 
@@ -26,7 +27,7 @@ is_content_length name = is_same_name name (codes "Content-length")
 
 -- what a header of a message is; the value of a CSeq is a number below 2 ^ 31
 pub record IsHeader (h : Header) : Type 0 where
-  pub name : IsRun is_name_byte h.name
+  pub name : IsRunOfBytes is_name_byte h.name
   pub value : IsTrue (list_all is_value_byte h.value)
   pub outer : HasNoOuterSpace h.value
   pub sequence : IsTrue (is_cseq h.name) → IsTrue (is_sequence_number h.value)
@@ -82,7 +83,7 @@ method_name Play = codes "PLAY"
 
 -- the first line of a request: its method and its target
 abbrev pub IsRequestLine : List ℕ → Method × List ℕ → Type 0
-IsRequestLine line start = IsRun is_target_byte start.1
+IsRequestLine line start = IsRunOfBytes is_target_byte start.1
     × (line ≡ method_name start.0 ++ 32 ∷ (start.1 ++ codes " RTSP/1.0" ++ crlf))
 
 abbrev pub three_digits : ℕ → List ℕ

@@ -17,7 +17,7 @@ use Rattle.gs_rtsp_text.specs.Bytes.{crlf}
 use Rattle.gs_rtsp_text.specs.Lines.{AreHeaderLines, IsRequestLine, IsStatusLine, cseq_count, body_length}
 
 -- a message: what its first line says, its headers and its body
-pub record Message (S : Type 0) : Type 0 where
+pub record TextMessage (S : Type 0) : Type 0 where
   pub start : S
   pub headers : List Header
   pub body : List ℕ
@@ -28,10 +28,10 @@ most_head = MOST_HEAD
 
 -- what bytes that have come so far hold: a whole message and the bytes that it takes, a byte that can't
 -- stand at its place, or neither yet
-pub data Answer (S : Type 0) : Type 0 where
-  Whole : (message : Message S) (used : ℕ) → Answer S
-  BadText : (place : ℕ) → Answer S
-  More : Answer S
+pub data TextAnswer (S : Type 0) : Type 0 where
+  Whole : (message : TextMessage S) (used : ℕ) → TextAnswer S
+  BadText : (place : ℕ) → TextAnswer S
+  More : TextAnswer S
 
 -- A kind of message is given by its first line, and by how many CSeq headers it may have.
 module _ {S : Type 0} (IsFirstLine : List ℕ → S → Type 0) (may_have : ℕ → Bool) where
@@ -51,7 +51,7 @@ module _ {S : Type 0} (IsFirstLine : List ℕ → S → Type 0) (may_have : ℕ 
     pub body_is : body_length hs ≡ Some body
 
   -- a message: a head of at most 4,096 bytes, and the body
-  pub record IsMessage (bytes : List ℕ) (m : Message S) : Type 0 where
+  pub record IsMessage (bytes : List ℕ) (m : TextMessage S) : Type 0 where
     pub head : List ℕ
     pub is_head : IsHead head m.start m.headers (length m.body)
     pub limit : length head ≤ most_head
@@ -84,15 +84,15 @@ module _ {S : Type 0} (IsFirstLine : List ℕ → S → Type 0) (may_have : ℕ 
   IsBadPlace bytes place = GoesWrongAt bytes place ⊎ ((place ≡ most_head) × IsTooLong bytes)
 
   -- a front of the bytes is a message
-  abbrev pub IsWhole : List ℕ → Message S → ℕ → Type 0
+  abbrev pub IsWhole : List ℕ → TextMessage S → ℕ → Type 0
   IsWhole bytes m used = (used ≤ length bytes) × IsMessage (take used bytes) m
 
   -- neither
   pub record IsOpen (bytes : List ℕ) : Type 0 where
-    pub not_whole : (m : Message S) (used : ℕ) → IsWhole bytes m used → ⊥
+    pub not_whole : (m : TextMessage S) (used : ℕ) → IsWhole bytes m used → ⊥
     pub not_bad : (place : ℕ) → IsBadPlace bytes place → ⊥
 
-  abbrev pub IsAnswer : List ℕ → Answer S → Type 0
+  abbrev pub IsAnswer : List ℕ → TextAnswer S → Type 0
   IsAnswer bytes (Whole m used) = IsWhole bytes m used
   IsAnswer bytes (BadText place) = IsBadPlace bytes place
   IsAnswer bytes More = IsOpen bytes
@@ -110,13 +110,13 @@ count_test kinds.Request = is_one
 count_test kinds.Response = is_at_most_one
 
 -- a message of which the first line isn't said
-abbrev pub behind_message : Behind → Message ⊤
+abbrev pub behind_message : Behind → TextMessage ⊤
 behind_message b = record { start = tt; headers = b.headers; body = b.body }
 
-abbrev pub request_message : Request → Message (Method × List ℕ)
+abbrev pub request_message : Request → TextMessage (Method × List ℕ)
 request_message r = record { start = (r.method, r.target); headers = r.headers; body = r.body }
 
-abbrev pub response_message : Response → Message ℕ
+abbrev pub response_message : Response → TextMessage ℕ
 response_message r = record { start = r.code; headers = r.headers; body = r.body }
 
 -- ---- requests and responses
@@ -131,7 +131,7 @@ IsBadRequestPlace bytes place = IsBadPlace IsRequestLine is_one bytes place
 abbrev pub IsOpenRequest : List ℕ → Type 0
 IsOpenRequest bytes = IsOpen IsRequestLine is_one bytes
 
-abbrev pub IsRequestAnswer : List ℕ → Answer (Method × List ℕ) → Type 0
+abbrev pub IsRequestAnswer : List ℕ → TextAnswer (Method × List ℕ) → Type 0
 IsRequestAnswer bytes a = IsAnswer IsRequestLine is_one bytes a
 
 -- the bytes are a response
@@ -144,7 +144,7 @@ IsBadResponsePlace bytes place = IsBadPlace IsStatusLine is_at_most_one bytes pl
 abbrev pub IsOpenResponse : List ℕ → Type 0
 IsOpenResponse bytes = IsOpen IsStatusLine is_at_most_one bytes
 
-abbrev pub IsResponseAnswer : List ℕ → Answer ℕ → Type 0
+abbrev pub IsResponseAnswer : List ℕ → TextAnswer ℕ → Type 0
 IsResponseAnswer bytes a = IsAnswer IsStatusLine is_at_most_one bytes a
 
 -- ---- what a reader returned
@@ -156,8 +156,8 @@ IfWhole (Ok reads.More) P = ⊤
 IfWhole (Err e) P = ⊤
 
 -- the result is this answer, unless memory ran out
-abbrev pub Answers : {T S : Type 0} → (T → Message S) → Result (Read T) TextError → Answer S → Type 0
-Answers view (Ok (reads.Whole value used)) a = a ≡ Whole (view value) used
-Answers view (Ok reads.More) a = a ≡ More
-Answers view (Err (errors.BadText place)) a = a ≡ BadText place
-Answers view (Err errors.OutOfMemory) a = ⊤
+abbrev pub AnswersText : {T S : Type 0} → (T → TextMessage S) → Result (Read T) TextError → TextAnswer S → Type 0
+AnswersText view (Ok (reads.Whole value used)) a = a ≡ Whole (view value) used
+AnswersText view (Ok reads.More) a = a ≡ More
+AnswersText view (Err (errors.BadText place)) a = a ≡ BadText place
+AnswersText view (Err errors.OutOfMemory) a = ⊤

@@ -12,7 +12,7 @@ use Rattle.gs_rtsp_text.specs.Bytes.{crlf, is_name_byte, is_value_byte, is_targe
 use Rattle.gs_bytes.specs.Numbers.{is_digit}
 use Rattle.gs_bytes.specs.Words.{is_space, without_first_spaces, trimmed}
 use Rattle.gs_rtsp_text.specs.Lines.{method_name, is_cseq, cseq_count, body_length}
-use Rattle.gs_rtsp_text.specs.Message.{Answer, Whole, BadText, More as Unfinished, most_head}
+use Rattle.gs_rtsp_text.specs.Message.{TextAnswer, Whole, BadText, More as Unfinished, most_head}
 
 infixl 10 ◌>>=◌
 abbrev pub ◌>>=◌ : {A B : Type 0} → Result A Stop → (A → Result B Stop) → Result B Stop
@@ -20,9 +20,9 @@ abbrev pub ◌>>=◌ : {A B : Type 0} → Result A Stop → (A → Result B Stop
 (Err e) >>= f = Err e
 
 -- What a function that takes no memory returned, seen by view, is what reading gives.
-abbrev pub Stops : {X Y : Type 0} → (X → Y) → Result X Stop → Result Y Stop → Type 0
-Stops view (Ok x) read = read ≡ Ok (view x)
-Stops view (Err e) read = read ≡ Err e
+abbrev pub StopsAlike : {X Y : Type 0} → (X → Y) → Result X Stop → Result Y Stop → Type 0
+StopsAlike view (Ok x) read = read ≡ Ok (view x)
+StopsAlike view (Err e) read = read ≡ Err e
 
 -- what a part gave, behind a byte that it begins with
 abbrev pub with_first : ℕ → Result (List ℕ × List ℕ) Stop → Result (List ℕ × List ℕ) Stop
@@ -48,14 +48,14 @@ digits_at n (b ∷ s) =
     if is_digit b then (if n == 0 || nat_le (2 ^ 31) (10 * n + (b - 48)) then Err
     (Bad (length (b ∷ s))) else with_first b (digits_at (10 * n + (b - 48)) s)) else Ok ([], b ∷ s)
 
-abbrev pub number_at : List ℕ → Result (List ℕ × List ℕ) Stop
-number_at [] = Err More
-number_at (b ∷ s) = if is_digit b then with_first b (digits_at (b - 48) s) else Err (Bad (length (b ∷ s)))
+abbrev pub decimal_at : List ℕ → Result (List ℕ × List ℕ) Stop
+decimal_at [] = Err More
+decimal_at (b ∷ s) = if is_digit b then with_first b (digits_at (b - 48) s) else Err (Bad (length (b ∷ s)))
 
 -- the value of a CSeq, to the end of its line
 unfoldable pub sequence_at : List ℕ → Result (List ℕ × List ℕ) Stop
 sequence_at s = do
-  digits ← number_at (without_first_spaces s)
+  digits ← decimal_at (without_first_spaces s)
   after ← token_at is_space 13 true digits.1
   rest ← literal_at (10 ∷ []) after.1
   Ok (digits.0, rest)
@@ -85,13 +85,13 @@ pub record HeadFields : Type 0 where
   pub headers : List Header
   pub size : ℕ
 
-abbrev pub fields : List Header → ℕ → HeadFields
-fields hs n = record { headers = hs; size = n }
+abbrev pub head_fields : List Header → ℕ → HeadFields
+head_fields hs n = record { headers = hs; size = n }
 
 -- The rest of a head behind some headers, for a number of lines at most.
 abbrev pub empty_line_at : List Header → Option ℕ → List ℕ → Result (HeadFields × List ℕ) Stop
 empty_line_at hs None s = Err (Bad (length s))
-empty_line_at hs (Some n) s = literal_at crlf s >>= λ rest. Ok (fields hs n, rest)
+empty_line_at hs (Some n) s = literal_at crlf s >>= λ rest. Ok (head_fields hs n, rest)
 
 abbrev pub begins_with_cr : List ℕ → Bool
 begins_with_cr [] = false
@@ -110,7 +110,7 @@ rest_of_head may_have hs s = lines_at may_have (suc (length s)) hs s
 -- the rest of a head gives the length of the body, and the bytes behind it are these
 abbrev pub GivesSize : {X : Type 0} → (X → ℕ × List ℕ) → Result X Stop
     → Result (HeadFields × List ℕ) Stop → Type 0
-GivesSize view (Ok x) read = (headers : List Header) × (read ≡ Ok (fields headers (view x).0, (view x).1))
+GivesSize view (Ok x) read = (headers : List Header) × (read ≡ Ok (head_fields headers (view x).0, (view x).1))
 GivesSize view (Err e) read = read ≡ Err e
 
 -- the bytes begin with the whole rest of a head
@@ -165,46 +165,46 @@ status_line_at s = do
 -- ---- heads and messages
 
 -- a head: what its first line says, its headers and the length of the body
-pub record Head (S : Type 0) : Type 0 where
+pub record MessageHead (S : Type 0) : Type 0 where
   pub start : S
   pub headers : List Header
   pub size : ℕ
 
-abbrev pub with_start : {S : Type 0} → S → HeadFields × List ℕ → Head S × List ℕ
+abbrev pub with_start : {S : Type 0} → S → HeadFields × List ℕ → MessageHead S × List ℕ
 with_start start x = (record { start = start; headers = x.0.headers; size = x.0.size }, x.1)
 
 unfoldable pub head_by : {S : Type 0} → (List ℕ → Result (S × List ℕ) Stop) → (ℕ → Bool) → List ℕ
-    → Result (Head S × List ℕ) Stop
+    → Result (MessageHead S × List ℕ) Stop
 head_by first may_have s = do
   start ← first s
   rest ← rest_of_head may_have [] start.1
   Ok (with_start start.0 rest)
 
 -- the same, where it is known what the first line says
-abbrev pub head_behind : {S : Type 0} → S → (ℕ → Bool) → List ℕ → Result (Head S × List ℕ) Stop
+abbrev pub head_behind : {S : Type 0} → S → (ℕ → Bool) → List ℕ → Result (MessageHead S × List ℕ) Stop
 head_behind start may_have s = rest_of_head may_have [] s >>= λ x. Ok (with_start start x)
 
 -- behind a head that ends at the place lies a body of n bytes, or less so far
-abbrev pub body_answer : {S : Type 0} → List ℕ → ℕ → S → List Header → ℕ → Answer S
+abbrev pub body_answer : {S : Type 0} → List ℕ → ℕ → S → List Header → ℕ → TextAnswer S
 body_answer bytes place start headers n =
     if nat_le (place + n) (length bytes) then Whole
     (record { start = start; headers = headers; body = take n (drop place bytes) }) (place + n) else Unfinished
 
 -- the bytes that are left at a stop are some of these
-abbrev pub IsWithin : List ℕ → Stop → Type 0
-IsWithin bytes More = Unit {0}
-IsWithin bytes (Bad left) = left ≤ length bytes
+abbrev pub IsStopWithin : List ℕ → Stop → Type 0
+IsStopWithin bytes More = Unit {0}
+IsStopWithin bytes (Bad left) = left ≤ length bytes
 
 -- the place of the first wrong byte, where there is one
 abbrev pub stop_place : List ℕ → Stop → Option ℕ
 stop_place bytes More = if nat_le most_head (length bytes) then Some most_head else None
 stop_place bytes (Bad left) = Some (length (take most_head bytes) - left)
 
-abbrev pub place_answer : {S : Type 0} → Option ℕ → Answer S
+abbrev pub place_answer : {S : Type 0} → Option ℕ → TextAnswer S
 place_answer None = Unfinished
 place_answer (Some place) = BadText place
 
 -- the answer by what was read of the first 4,096 bytes
-abbrev pub answer_by : {S : Type 0} → List ℕ → Result (Head S × List ℕ) Stop → Answer S
-answer_by bytes (Ok x) = body_answer bytes (length (take most_head bytes) - length x.1) x.0.start x.0.headers x.0.size
-answer_by bytes (Err stop) = place_answer (stop_place bytes stop)
+abbrev pub text_answer : {S : Type 0} → List ℕ → Result (MessageHead S × List ℕ) Stop → TextAnswer S
+text_answer bytes (Ok x) = body_answer bytes (length (take most_head bytes) - length x.1) x.0.start x.0.headers x.0.size
+text_answer bytes (Err stop) = place_answer (stop_place bytes stop)

@@ -5,7 +5,7 @@ use Rattle.gs_rtsp_text.specs.declared.header.Header.{Header}
 use Rattle.gs_rtsp_text.specs.declared.message.Method.{Method}
 use Rattle.gs_rtsp_text.specs.declared.message.Request.{Request}
 use Rattle.gs_rtsp_text.specs.declared.message.Response.{Response}
-use Rattle.gs_rtsp_text.specs.Bytes.{crlf, is_target_byte, IsRun}
+use Rattle.gs_rtsp_text.specs.Bytes.{crlf, is_target_byte, IsRunOfBytes}
 use Rattle.gs_rtsp_text.specs.Lines.{IsHeader, cseq_count, body_length, method_name, three_digits}
 use Rattle.gs_rtsp_text.specs.Message.{Whole, most_head, is_one, is_at_most_one, request_message, response_message}
 use Rattle.gs_rtsp_text.specs.Message.{IsRequestAnswer, IsResponseAnswer}
@@ -45,7 +45,7 @@ pub record AreRightHeaders (may_have : ℕ → Bool) (first : List ℕ) (hs : Li
 
 -- a request whose text is in the grammar
 pub record IsSendableRequest (r : Request) : Type 0 where
-  pub target : IsRun is_target_byte r.target
+  pub target : IsRunOfBytes is_target_byte r.target
   pub headers : AreRightHeaders is_one (request_line_text r.method r.target) r.headers r.body
 
 -- a response whose text is in the grammar, with a code that this profile has

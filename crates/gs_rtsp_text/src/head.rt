@@ -4,7 +4,7 @@ ghost use Rattle.std.specs.Prelude.{◌≡◌, ◌≤◌, ◌+◌, ◌||◌, [],
 ghost use Rattle.gs_bytes.specs.Numbers.{decimal_up_to};
 ghost use Rattle.gs_rtsp_text.specs.Lines.{is_cseq, is_content_length, most_body};
 ghost use Rattle.gs_rtsp_text.specs.Message.{count_test};
-ghost use Rattle.gs_rtsp_text.specs.Reading.{GivesSize, HasRest, IsRestOf, IsWithin, begins_with_cr, rest_of_head};
+ghost use Rattle.gs_rtsp_text.specs.Reading.{GivesSize, HasRest, IsRestOf, IsStopWithin, begins_with_cr, rest_of_head};
 
 use crate::header::Header;
 use crate::limits::MOST_BODY;
@@ -38,7 +38,8 @@ impl Counts {
     /// Counts a header line more.
     fn count(self, name: &[u8], value: &[u8]) -> Counts
         requires { self.sequences ≤ 2 }
-        ensures sequences { result.sequences ≡ (if is_cseq name.now then min (self.sequences + 1) 2 else self.sequences) }
+        ensures sequences { result.sequences ≡ (if is_cseq name.now then min (self.sequences + 1) 2
+            else self.sequences) }
         ensures given { result.given ≡ (self.given || is_content_length name.now) }
         ensures size { result.size ≡ (if is_content_length name.now
             then (if self.given then None else decimal_up_to most_body value.now) else self.size) }
@@ -88,7 +89,7 @@ fn is_at_empty_line(bytes: &[u8]) -> bool
 /// copies nothing.
 pub(crate) fn body_size(kind: Kind, bytes: &[u8]) -> Result<(u32, &[u8]), Stop>
     ensures size { GivesSize (λ x. (x.0, x.1.now)) result (rest_of_head (count_test kind) [] bytes.now) }
-    ensures within { MatchResult result (λ x. length x.1.now ≤ length bytes.now) (λ stop. IsWithin bytes.now stop) }
+    ensures within { MatchResult result (λ x. length x.1.now ≤ length bytes.now) (λ stop. IsStopWithin bytes.now stop) }
 {
     let mut counts = Counts {
         sequences: 0,

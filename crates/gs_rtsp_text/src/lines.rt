@@ -2,7 +2,7 @@
 
 ghost use Rattle.std.specs.Prelude.{◌≡◌, ◌<◌, IfOk};
 ghost use Rattle.gs_rtsp_text.specs.Lines.{is_same_name, is_cseq, is_content_length};
-ghost use Rattle.gs_rtsp_text.specs.Reading.{Stops, word, sequence_at, value_at, value_of_at, header_at};
+ghost use Rattle.gs_rtsp_text.specs.Reading.{StopsAlike, word, sequence_at, value_at, value_of_at, header_at};
 ghost use Rattle.gs_rtsp_text.specs.Reading.{this_method, method_at, request_line_at, digit_at, status_line_at};
 
 use crate::message::Method;
@@ -34,7 +34,7 @@ pub(crate) fn names_content_length(name: &[u8]) -> bool
 /// Reads the value of a CSeq, to the end of its line.
 #[tactic(auto, unfolding(crate::specs::Reading::sequence_at))]
 fn sequence(bytes: &[u8]) -> Result<(&[u8], &[u8]), Stop>
-    ensures { Stops (λ x. (x.0.now, x.1.now)) result (sequence_at bytes.now) }
+    ensures { StopsAlike (λ x. (x.0.now, x.1.now)) result (sequence_at bytes.now) }
 {
     let (digits, rest) = number(trim_start(bytes))?;
     let (_, rest) = token(ByteClass::Space, b'\r', true, rest)?;
@@ -45,7 +45,7 @@ fn sequence(bytes: &[u8]) -> Result<(&[u8], &[u8]), Stop>
 /// Reads the value of another header, to the end of its line.
 #[tactic(auto, unfolding(crate::specs::Reading::value_at))]
 fn text_value(bytes: &[u8]) -> Result<(&[u8], &[u8]), Stop>
-    ensures { Stops (λ x. (x.0.now, x.1.now)) result (value_at bytes.now) }
+    ensures { StopsAlike (λ x. (x.0.now, x.1.now)) result (value_at bytes.now) }
 {
     let (raw, rest) = token(ByteClass::Value, b'\r', true, bytes)?;
     let rest = literal(b"\n", rest)?;
@@ -53,7 +53,7 @@ fn text_value(bytes: &[u8]) -> Result<(&[u8], &[u8]), Stop>
 }
 
 fn value_of<'a>(name: &[u8], bytes: &'a [u8]) -> Result<(&'a [u8], &'a [u8]), Stop>
-    ensures { Stops (λ x. (x.0.now, x.1.now)) result (value_of_at name.now bytes.now) }
+    ensures { StopsAlike (λ x. (x.0.now, x.1.now)) result (value_of_at name.now bytes.now) }
 {
     if names_cseq(name) {
         sequence(bytes)
@@ -72,7 +72,8 @@ pub(crate) struct HeaderParts<'a> {
 /// Reads a header line.
 #[tactic(auto, unfolding(crate::specs::Reading::header_at))]
 pub(crate) fn header_parts(bytes: &[u8]) -> Result<(HeaderParts, &[u8]), Stop>
-    ensures { Stops (λ x. (record { name = x.0.name.now; value = x.0.value.now }, x.1.now)) result (header_at bytes.now) }
+    ensures { StopsAlike (λ x. (record { name = x.0.name.now; value = x.0.value.now }, x.1.now)) result
+        (header_at bytes.now) }
 {
     let (name, rest) = token(ByteClass::Name, b':', false, bytes)?;
     let (value, rest) = value_of(name, rest)?;
@@ -95,7 +96,7 @@ impl Method {
 }
 
 fn this_word(method: Method, bytes: &[u8]) -> Result<(Method, &[u8]), Stop>
-    ensures { Stops (λ x. (x.0, x.1.now)) result (this_method method bytes.now) }
+    ensures { StopsAlike (λ x. (x.0, x.1.now)) result (this_method method bytes.now) }
 {
     let rest = literal(method.word(), bytes)?;
     Ok((method, rest))
@@ -103,7 +104,7 @@ fn this_word(method: Method, bytes: &[u8]) -> Result<(Method, &[u8]), Stop>
 
 #[tactic(auto, unfolding(crate::specs::Reading::method_at))]
 fn method(bytes: &[u8]) -> Result<(Method, &[u8]), Stop>
-    ensures { Stops (λ x. (x.0, x.1.now)) result (method_at bytes.now) }
+    ensures { StopsAlike (λ x. (x.0, x.1.now)) result (method_at bytes.now) }
 {
     match bytes {
         [] => Err(Stop::More),
@@ -126,7 +127,7 @@ pub(crate) struct RequestLine<'a> {
 /// Reads the first line of a request.
 #[tactic(auto, unfolding(crate::specs::Reading::request_line_at))]
 pub(crate) fn request_line(bytes: &[u8]) -> Result<(RequestLine, &[u8]), Stop>
-    ensures { Stops (λ x. ((x.0.method, x.0.target.now), x.1.now)) result (request_line_at bytes.now) }
+    ensures { StopsAlike (λ x. ((x.0.method, x.0.target.now), x.1.now)) result (request_line_at bytes.now) }
 {
     let (method, rest) = method(bytes)?;
     let (target, rest) = token(ByteClass::Target, b' ', false, rest)?;
@@ -136,7 +137,7 @@ pub(crate) fn request_line(bytes: &[u8]) -> Result<(RequestLine, &[u8]), Stop>
 
 #[tactic(auto, unfolding(crate::specs::Reading::digit_at))]
 fn digit(bytes: &[u8]) -> Result<(u16, &[u8]), Stop>
-    ensures read { Stops (λ x. (x.0, x.1.now)) result (digit_at bytes.now) }
+    ensures read { StopsAlike (λ x. (x.0, x.1.now)) result (digit_at bytes.now) }
     ensures below { IfOk result (λ x. x.0 < 10) }
 {
     match bytes {
@@ -149,7 +150,7 @@ fn digit(bytes: &[u8]) -> Result<(u16, &[u8]), Stop>
 /// Reads the first line of a response: its code.
 #[tactic(auto, unfolding(crate::specs::Reading::status_line_at))]
 pub(crate) fn status_line(bytes: &[u8]) -> Result<(u16, &[u8]), Stop>
-    ensures { Stops (λ x. (x.0, x.1.now)) result (status_line_at bytes.now) }
+    ensures { StopsAlike (λ x. (x.0, x.1.now)) result (status_line_at bytes.now) }
 {
     let rest = literal(b"RTSP/1.0 ", bytes)?;
     let (a, rest) = digit(rest)?;

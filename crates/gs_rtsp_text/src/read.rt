@@ -3,11 +3,13 @@
 ghost use Rattle.std.specs.Prelude.{◌≡◌, ℕ, ◌+◌, ◌<◌, ◌≤◌, length, take, drop, MatchOption};
 ghost use Rattle.gs_rtsp_text.specs.declared.message.Read.TheVariants.{More as more_to_come};
 ghost use Rattle.gs_rtsp_text.specs.declared.message.TextError.TheVariants.{BadText};
-ghost use Rattle.gs_rtsp_text.specs.Message.{Answer, Answers, IfWhole, most_head, count_test, is_one, is_at_most_one};
+ghost use Rattle.gs_rtsp_text.specs.Message.{TextAnswer, AnswersText, IfWhole, most_head, count_test, is_one};
+ghost use Rattle.gs_rtsp_text.specs.Message.{is_at_most_one};
 ghost use Rattle.gs_rtsp_text.specs.Message.{behind_message, request_message, response_message};
 ghost use Rattle.gs_rtsp_text.specs.Message.{IsRequest, IsBadRequestPlace, IsOpenRequest, IsRequestAnswer};
 ghost use Rattle.gs_rtsp_text.specs.Message.{IsResponse, IsBadResponsePlace, IsOpenResponse, IsResponseAnswer};
-ghost use Rattle.gs_rtsp_text.specs.Reading.{IsWithin, answer_by, head_behind, head_by, request_line_at, status_line_at, stop_place};
+ghost use Rattle.gs_rtsp_text.specs.Reading.{IsStopWithin, text_answer, head_behind, head_by, request_line_at};
+ghost use Rattle.gs_rtsp_text.specs.Reading.{status_line_at, stop_place};
 
 use crate::head::{Kind, body_size, copy_headers};
 use crate::header::Headers;
@@ -36,7 +38,7 @@ fn head_part(bytes: &[u8]) -> &[u8]
 /// The place of the wrong byte, where reading the front of the bytes stopped at one.
 fn wrong_place(bytes: &[u8], front: &[u8], stop: Stop) -> Option<usize>
     requires front { front.now ≡ take most_head bytes.now }
-    requires left { IsWithin front.now stop }
+    requires left { IsStopWithin front.now stop }
     ensures { result ≡ stop_place bytes.now stop }
 {
     match stop {
@@ -82,7 +84,7 @@ fn behind_first_line(
     requires front { front.now ≡ take most_head bytes.now }
     requires shorter { length front.now ≤ length bytes.now }
     requires rest { length rest.now ≤ length front.now }
-    ensures { Answers behind_message result (answer_by bytes.now (head_behind tt (count_test kind) rest.now)) }
+    ensures { AnswersText behind_message result (text_answer bytes.now (head_behind tt (count_test kind) rest.now)) }
 {
     let (size, left) = match body_size(kind, rest) {
         Ok(found) => found,
@@ -101,8 +103,8 @@ fn behind_first_line(
 }
 
 fn request_answer(alloc: Global, bytes: &[u8]) -> Result<Read<Request>, TextError>
-    ensures { Answers request_message result
-        (answer_by bytes.now (head_by request_line_at is_one (take most_head bytes.now))) }
+    ensures { AnswersText request_message result
+        (text_answer bytes.now (head_by request_line_at is_one (take most_head bytes.now))) }
 {
     let front = head_part(bytes);
     let (RequestLine { method, target }, rest) = match request_line(front) {
@@ -134,15 +136,15 @@ pub fn read_request(alloc: Global, bytes: &[u8]) -> Result<Read<Request>, TextEr
     ensures bad_text { (place : ℕ) → result ≡ Err (BadText place) → IsBadRequestPlace bytes.now place }
     ensures more { result ≡ Ok more_to_come → IsOpenRequest bytes.now }
     // What the bytes hold is answered, unless memory runs out.
-    ensures only { (answer : Answer _) → IsRequestAnswer bytes.now answer
-        → Answers request_message result answer }
+    ensures only { (answer : TextAnswer _) → IsRequestAnswer bytes.now answer
+        → AnswersText request_message result answer }
 {
     request_answer(alloc, bytes)
 }
 
 fn response_answer(alloc: Global, bytes: &[u8]) -> Result<Read<Response>, TextError>
-    ensures { Answers response_message result
-        (answer_by bytes.now (head_by status_line_at is_at_most_one (take most_head bytes.now))) }
+    ensures { AnswersText response_message result
+        (text_answer bytes.now (head_by status_line_at is_at_most_one (take most_head bytes.now))) }
 {
     let front = head_part(bytes);
     let (code, rest) = match status_line(front) {
@@ -171,8 +173,8 @@ pub fn read_response(alloc: Global, bytes: &[u8]) -> Result<Read<Response>, Text
     ensures bad_text { (place : ℕ) → result ≡ Err (BadText place) → IsBadResponsePlace bytes.now place }
     ensures more { result ≡ Ok more_to_come → IsOpenResponse bytes.now }
     // What the bytes hold is answered, unless memory runs out.
-    ensures only { (answer : Answer _) → IsResponseAnswer bytes.now answer
-        → Answers response_message result answer }
+    ensures only { (answer : TextAnswer _) → IsResponseAnswer bytes.now answer
+        → AnswersText response_message result answer }
 {
     response_answer(alloc, bytes)
 }

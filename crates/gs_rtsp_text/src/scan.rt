@@ -4,7 +4,7 @@
 
 ghost use Rattle.std.specs.Prelude.{◌≡◌};
 ghost use Rattle.gs_rtsp_text.specs.Bytes.{class_test};
-ghost use Rattle.gs_rtsp_text.specs.Reading.{Stops, literal_at, token_at, number_at};
+ghost use Rattle.gs_rtsp_text.specs.Reading.{StopsAlike, literal_at, token_at, decimal_at};
 
 use crate::stop::Stop;
 
@@ -39,7 +39,7 @@ impl ByteClass {
 
 /// Reads these very bytes.
 pub(crate) fn literal<'a>(text: &[u8], bytes: &'a [u8]) -> Result<&'a [u8], Stop>
-    ensures { Stops (λ rest. rest.now) result (literal_at text.now bytes.now) }
+    ensures { StopsAlike (λ rest. rest.now) result (literal_at text.now bytes.now) }
 {
     for (i, want) in text.iter().enumerate() {
         match bytes.get(i) {
@@ -62,7 +62,7 @@ pub(crate) fn token(
     may_end: bool,
     bytes: &[u8],
 ) -> Result<(&[u8], &[u8]), Stop>
-    ensures { Stops (λ x. (x.0.now, x.1.now)) result (token_at (class_test class) last may_end bytes.now) }
+    ensures { StopsAlike (λ x. (x.0.now, x.1.now)) result (token_at (class_test class) last may_end bytes.now) }
 {
     for (i, byte) in bytes.iter().enumerate() {
         if !class.has(*byte) {
@@ -77,7 +77,7 @@ pub(crate) fn token(
 
 /// Reads the digits of a number below 2^31, to the byte behind them.
 pub(crate) fn number(bytes: &[u8]) -> Result<(&[u8], &[u8]), Stop>
-    ensures { Stops (λ x. (x.0.now, x.1.now)) result (number_at bytes.now) }
+    ensures { StopsAlike (λ x. (x.0.now, x.1.now)) result (decimal_at bytes.now) }
 {
     let mut value: u64 = 0;
     for (i, byte) in bytes.iter().enumerate() {

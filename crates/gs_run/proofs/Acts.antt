@@ -8,10 +8,10 @@ use Rattle.std.proofs.lemmas.Int.{fits_signed_from_abs}
 use Rattle.gs_bytes.specs.Field.{little_bytes, little_from}
 use Rattle.gs_bytes.proofs.FieldLemmas.{reads_back}
 use Rattle.gs_input.specs.declared.event.Event.{Event}
-use Rattle.gs_input.specs.Packet.{fault_of, magic_in, packet_of}
+use Rattle.gs_input.specs.Packet.{event_fault, magic_in, packet_of}
 use Rattle.gs_control.specs.declared.message.Message.TheVariants as message
 use Rattle.gs_control.specs.Message.{bytes_of, zeros, kind_in}
-use Rattle.gs_run.specs.Message.{Act, Invalidate, AskIdr, Input, Nothing, act_of, act_by, event_by}
+use Rattle.gs_run.specs.Message.{Act, Invalidate, AskIdr, Input, Nothing, act_of, act_by, acted_event}
 
 -- ---- ranges
 
@@ -61,4 +61,4 @@ pub input_is_of_user : (event : Event) → IsOfUser (act_of (bytes_of (message.I
 unfolding act_of
 input_is_of_user event =
     subst (λ (kind : ℕ). IsOfUser (act_by kind (drop 2 (bytes_of (message.Input event))))) (sym (kind_of_input event))
-    (input_by (is_none (fault_of (packet_of event))) (event_by (magic_in (packet_of event)) (packet_of event)))
+    (input_by (is_none (event_fault (packet_of event))) (acted_event (magic_in (packet_of event)) (packet_of event)))

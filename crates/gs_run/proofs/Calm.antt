@@ -10,10 +10,11 @@ use Rattle.gs_enet.specs.declared.event.PeerEvent.TheVariants as event
 use Rattle.gs_enet.specs.declared.state.PeerState.{PeerState}
 use Rattle.gs_enet.specs.declared.state.PeerState.TheVariants as state
 use Rattle.gs_enet.specs.declared.answer.Answer.{Answer}
-use Rattle.gs_enet.specs.Record.{PeerRecord, Unacknowledged, Content, Connect, VerifyConnect, Disconnect, Message, Given, channels, control, given_on, heard}
+use Rattle.gs_enet.specs.Record.{PeerRecord, Unacknowledged, Content, Connect, VerifyConnect, Disconnect, Message, GivenMessage, channels, control, given_on}
+use Rattle.gs_enet.specs.Record.{heard}
 use Rattle.gs_enet.specs.Record.{heard_count, given_count, messages_on, happened, owing, shut}
 use Rattle.gs_enet.specs.Receive.{expected, distance, is_next, is_behind, is_connect, takes_messages, taken_if, message_if, verified, verify_if, disconnect_if}
-use Rattle.gs_enet.specs.Receive.{connected, leave_if, acknowledged, is_named, acknowledged_if, answer_to, received, all_received}
+use Rattle.gs_enet.specs.Receive.{connected, leave_if, acknowledged, is_named, acknowledged_if, owed_answer, command_received, all_received}
 use Rattle.gs_enet.specs.Write.{Item, Answers, Orders, item_command, order_command}
 use Rattle.gs_enet.specs.World.{IsNearOrder, IsNearItem, AreNear}
 use Rattle.gs_enet.proofs.Lists.{Each}
@@ -53,7 +54,7 @@ near_item by r (Orders o) calm low = near_order r o.content o.channel o.number c
 pub calm_same : (r s : PeerRecord) → s.given ≡ r.given → ((c : ℕ) → messages_on c (heard s) ≡ messages_on c (heard r)) → IsCalm r → IsCalm s
 calm_same r s given same calm = record {
   heard_few = λ c. let few = calm.heard_few c in omega (arith, few, ap (λ (l : List (List ℕ)). length l) (same c));
-  given_few = λ c. subst (λ (g : List Given). length (given_on c g) ≤ 30000) (sym given) (calm.given_few c);
+  given_few = λ c. subst (λ (g : List GivenMessage). length (given_on c g) ≤ 30000) (sym given) (calm.given_few c);
 }
 
 quiet_heard : (e : PeerEvent) (r : PeerRecord) → IsNoMessage e → (c : ℕ) → messages_on c (heard (happened e r)) ≡ messages_on c (heard r)
@@ -163,18 +164,18 @@ calm_taken false c n bytes a r low calm = calm
 -- ---- datagrams
 
 calm_order : (sent : ℕ) (content : Content) (channel number : ℕ) (by r : PeerRecord) → IsLowContent content number → IsCalm r
-    → IsCalm (received sent (order_command content channel number by) r)
-unfolding received
+    → IsCalm (command_received sent (order_command content channel number by) r)
+unfolding command_received
 calm_order sent Connect channel number by r low calm = calm
 calm_order sent VerifyConnect channel number by r low calm =
-    calm_verify (is_some r.extra && (by.connect_id == r.connect_id)) by.own (answer_to sent control (number % 65536)) r calm
+    calm_verify (is_some r.extra && (by.connect_id == r.connect_id)) by.own (owed_answer sent control (number % 65536)) r calm
 calm_order sent Disconnect channel number by r low calm =
-    calm_disconnect r.disconnected (record (answer_to sent control (number % 65536)) { to_disconnect = true }) r calm
+    calm_disconnect r.disconnected (record (owed_answer sent control (number % 65536)) { to_disconnect = true }) r calm
 calm_order sent (Message bytes) channel number by r low calm =
-    calm_taken (nat_lt channel channels && takes_messages r.state) channel number bytes (answer_to sent channel (number % 65536)) r low calm
+    calm_taken (nat_lt channel channels && takes_messages r.state) channel number bytes (owed_answer sent channel (number % 65536)) r low calm
 
-calm_item : (sent : ℕ) (by r : PeerRecord) (x : Item) → IsLow x → IsCalm r → IsCalm (received sent (item_command by x) r)
-unfolding received
+calm_item : (sent : ℕ) (by r : PeerRecord) (x : Item) → IsLow x → IsCalm r → IsCalm (command_received sent (item_command by x) r)
+unfolding command_received
 calm_item sent by r (Answers a) low calm = calm_acknowledge (find (is_named a.channel a.number) r.unacknowledged) a.channel a.number r calm
 calm_item sent by r (Orders o) low calm = calm_order sent o.content o.channel o.number by r low calm
 
@@ -182,10 +183,10 @@ pub calm_is_near : (by : PeerRecord) (xs : List Item) (r : PeerRecord) → Each 
 calm_is_near by [] r low calm = tt
 calm_is_near by (x ∷ xs) r low calm = (
   near_item by r x calm low.0,
-  calm_is_near by xs (received (by.now % 65536) (item_command by x) r) low.1 (calm_item (by.now % 65536) by r x low.0 calm),
+  calm_is_near by xs (command_received (by.now % 65536) (item_command by x) r) low.1 (calm_item (by.now % 65536) by r x low.0 calm),
 )
 
 pub calm_all : (sent : ℕ) (by : PeerRecord) (xs : List Item) (r : PeerRecord) → Each IsLow xs → IsCalm r
     → IsCalm (all_received sent (map (item_command by) xs) r)
 calm_all sent by [] r low calm = calm
-calm_all sent by (x ∷ xs) r low calm = calm_all sent by xs (received sent (item_command by x) r) low.1 (calm_item sent by r x low.0 calm)
+calm_all sent by (x ∷ xs) r low calm = calm_all sent by xs (command_received sent (item_command by x) r) low.1 (calm_item sent by r x low.0 calm)

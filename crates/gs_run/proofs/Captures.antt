@@ -5,8 +5,8 @@ use Rattle.std.specs.List.{All, range_with_len}
 use Rattle.std.proofs.lemmas.List.Elements.{All-nil, All-cons, All-push, All-map}
 use Rattle.gs_tape.specs.Tick.{Delta}
 use Rattle.gs_tape.specs.Limits.{HoldsBytes}
-use Rattle.gs_tape.specs.Reading.{Fault, Head, head_at, duration_of_head}
-use Rattle.gs_tape.specs.Generated.{Drawn, draw, next_state, pattern, unit_of, unit_from, with_delta, deltas, with_sound, three_sounds, sounds}
+use Rattle.gs_tape.specs.Reading.{Fault, CaptureHead, head_at, duration_of_head}
+use Rattle.gs_tape.specs.Generated.{Drawn, draw, next_state, pattern, drawn_unit, unit_from, with_delta, deltas, with_sound, three_sounds, sounds}
 use Rattle.gs_tape.specs.Generated.{tick, ticks_from}
 use Rattle.gs_tape.proofs.Results.{Gives}
 use Rattle.gs_tape.proofs.Ticks.{IsHead, head_gives, AreBytes-from_All, ticks_keep_limits, ticks_hold_bytes, audio_length_keeps}
@@ -17,7 +17,7 @@ use Rattle.gs_run.specs.WholeRun.{BytesAreCaptures, GeneratedFilesAreCaptures}
 -- ---- the bytes of a file
 
 -- a head without a fault has a known duration
-known_duration : (bytes : List ℕ) (r : Result (Head × List ℕ) Fault) → Gives (IsHead bytes) r → fault_of_head r ≡ None
+known_duration : (bytes : List ℕ) (r : Result (CaptureHead × List ℕ) Fault) → Gives (IsHead bytes) r → fault_of_head r ≡ None
     → (duration_of_head r ≡ 5) ⊎ (duration_of_head r ≡ 10)
 known_duration bytes (Err f) gives none = absurd cc
 known_duration bytes (Ok head) gives none = gives.duration_known
@@ -44,8 +44,8 @@ AreUnits us = All (All (λ b. b < 2 ^ 8)) us
 pattern_bytes : (n base : ℕ) → IsOfBytes (pattern n base)
 pattern_bytes n base = All-map (λ b. b < 2 ^ 8) (λ i. (base + i) % 251) (range_with_len 0 n) (λ k d within. omega arith)
 
-unit_bytes : (n s : ℕ) → IsOfBytes (unit_of n s).value
-unfolding unit_of
+unit_bytes : (n s : ℕ) → IsOfBytes (drawn_unit n s).value
+unfolding drawn_unit
 unit_bytes n s = pattern_bytes n (draw s % 251)
 
 unit_from_bytes : (least span s : ℕ) → IsOfBytes (unit_from least span s).value
@@ -75,7 +75,7 @@ deltas_bytes t s =
 
 sound_bytes : (x : Drawn (List (List ℕ))) → AreUnits x.value → AreUnits (with_sound x).value
 unfolding with_sound
-sound_bytes x are = All-push (All (λ b. b < 2 ^ 8)) x.value (unit_of 240 x.state).value are (unit_bytes 240 x.state)
+sound_bytes x are = All-push (All (λ b. b < 2 ^ 8)) x.value (drawn_unit 240 x.state).value are (unit_bytes 240 x.state)
 
 three_bytes : (s : ℕ) → AreUnits (three_sounds s).value
 three_bytes s =

@@ -17,7 +17,7 @@ use Rattle.gs_input.specs.declared.event.Event.TheVariants as event
 use Rattle.gs_control.specs.declared.message.Message.TheVariants as message
 use Rattle.gs_control.specs.Message.{bytes_of}
 use Rattle.gs_stream.specs.Paired.{AreOfHistory, IsOfStream}
-use Rattle.gs_enet.specs.Record.{Given, channels, given_on, given_count}
+use Rattle.gs_enet.specs.Record.{GivenMessage, channels, given_on, given_count}
 use Rattle.gs_enet.specs.Steps.{is_open, is_full, can_send}
 use Rattle.gs_enet.specs.World.{Send, Close, acted}
 use Rattle.gs_enet.proofs.Lists.{Each, each_push, each_append}
@@ -31,7 +31,7 @@ use Rattle.gs_schedule.specs.declared.output.Output.TheVariants as output
 use Rattle.gs_run.specs.Report.{Acted, quietly, reporting}
 use Rattle.gs_run.specs.Message.{event_channel}
 use Rattle.gs_run.specs.Streaming.{with_video, with_video_if, video_taken, with_audio_if, audio_taken, reset}
-use Rattle.gs_run.specs.Giving.{given, event_given, idr_asked, closed}
+use Rattle.gs_run.specs.Giving.{given, event_given, idr_asked, closed_part}
 use Rattle.gs_run.specs.Refusal.{has_made_most, may_give, makes_ask, may_take_video, is_client_open}
 use Rattle.gs_store.specs.Named.{is_nameable}
 use Rattle.gs_run.specs.Scene.{Scene}
@@ -204,7 +204,7 @@ user_gives ticks part c bytes below apart can room other k =
       few = omega (arith, few, ap (λ (l : List (List ℕ)). length l) one);
       asked = k.asked;
       on_channel = one ∙ k.on_channel;
-      others = λ d far. subst (λ (g : List Given). Each IsOther (given_on d g)) (sym more) (on d far (c == d) refl);
+      others = λ d far. subst (λ (g : List GivenMessage). Each IsOther (given_on d g)) (sym more) (on d far (c == d) refl);
       lost = k.lost;
       fitting = k.fitting;
       acted = k.acted;
@@ -240,7 +240,7 @@ idr_gives ticks part can room k =
       both = act_both (Send request_channel bytes) part.client part.host k.both;
       calm_client = calm_sent request_channel bytes old moved.peer more (heard_same request_channel bytes part.client) (omega (arith, room)) k.calm_client;
       calm_host = k.calm_host;
-      few = omega (arith, room, ap (λ (g : List Given). length (given_on request_channel g)) more, count_more request_channel bytes old.given);
+      few = omega (arith, room, ap (λ (g : List GivenMessage). length (given_on request_channel g)) more, count_more request_channel bytes old.given);
       asked = k.asked ++ Idr ∷ [];
       on_channel = ap (given_on request_channel) more ∙ given_on-own request_channel bytes old.given
           ∙ ap (λ (l : List (List ℕ)). l ++ bytes ∷ []) k.on_channel ∙ sym (map-append owed_message k.asked (Idr ∷ []));
@@ -324,8 +324,8 @@ idr_keeps ticks session part test k = by (is_full part.client.peer request_chann
       (leb-false 30000 (made_on request_channel part) (not_full (is_full part.client.peer request_channel)
       (has_made_most request_channel part) parts.1 room)) k
 
-pub close_keeps : (ticks : List Tick) (part : Part) → IsKeptPart ticks part → IsKeptPart ticks (closed part).value
-unfolding closed
+pub close_keeps : (ticks : List Tick) (part : Part) → IsKeptPart ticks part → IsKeptPart ticks (closed_part part).value
+unfolding closed_part
 close_keeps ticks part k =
     let client = acted Close part.client in
     let kept = kept_close part.client.peer in

@@ -29,7 +29,7 @@ use Rattle.gs_client_core.specs.declared.asker.Owed.{Owed}
 use Rattle.gs_run.specs.Message.{act_of}
 use Rattle.gs_enet.specs.Sides.{all_told}
 use Rattle.gs_client_core.specs.Owed.{owed_message}
-use Rattle.gs_run.specs.Hearing.{all_heard, host_hears, up_taken, down_taken, timed, entered}
+use Rattle.gs_run.specs.Hearing.{all_heard, host_hears, up_taken, down_taken, timed_part, entered}
 use Rattle.gs_run.specs.Streaming.{newest_sent, turned, turn_entry}
 use Rattle.gs_run.specs.Scene.{Scene}
 use Rattle.gs_run.proofs.Calm.{IsCalm}
@@ -135,8 +135,8 @@ down_keeps ticks session now n part k =
     client_told_keeps ticks (record part { client = client })
     (client_moves client both (calm_came (n - 1) now part.client part.host k.calm_client k.calm_host k.both) (kept_came w now part.client).given k)
 
-pub timed_keeps : (ticks : List Tick) (session now : ℕ) (part : Part) → IsKeptPart ticks part → IsKeptPart ticks (timed session now part).value
-unfolding timed
+pub timed_keeps : (ticks : List Tick) (session now : ℕ) (part : Part) → IsKeptPart ticks part → IsKeptPart ticks (timed_part session now part).value
+unfolding timed_part
 timed_keeps ticks session now part k =
     let client = acted (Time now) part.client in
     let first = client_told_keeps ticks (record part { client = client })

@@ -15,7 +15,7 @@ use Rattle.gs_run.specs.Deed.{Deed}
 use Rattle.gs_run.specs.Refusal.{Refusal, BadLine, BadFile}
 use Rattle.gs_run.specs.Done.{done, Ran, ran_on, ran}
 use Rattle.gs_run.specs.Run.{Run, fault_status, refusal_status, stopped, finished, behind, RunsOn, RunsStep, RunsFrom, RunsUnless}
-use Rattle.gs_run.specs.UserEvents.{IsProper, IsProperStep}
+use Rattle.gs_run.specs.UserEvents.{IsProperDeed, IsProperStep}
 use Rattle.gs_run.specs.WholeRun.{ending, IsDoneBy}
 use Rattle.gs_run.proofs.ProperDeeds.{proper_deeds}
 
@@ -49,7 +49,7 @@ joined file (d ∷ ds) es state none = by (done file d state) none (λ next none
 -- the deeds up to the one that was refused, which left and reported the same
 record HasFront (file : CaptureFile) (ds : List Deed) (state : State) (did : Ran) : Type 0 where
   front : List Deed
-  proper : AllByRecursion IsProper ds → AllByRecursion IsProper front
+  proper : AllByRecursion IsProperDeed ds → AllByRecursion IsProperDeed front
   none_refused : (ran file front state).refused ≡ None
   state_same : (ran file front state).state ≡ did.state
   reports_same : (ran file front state).reports ≡ did.reports
@@ -97,7 +97,7 @@ refusal_ends n (BadFile f) state = fault_ends f state
 -- the deeds of a run that begins in this state, each of them proper under a premise
 record IsDoneFrom (file : CaptureFile) (from : State) (Premise : Type 0) (run : Run) : Type 0 where
   deeds : List Deed
-  proper : Premise → AllByRecursion IsProper deeds
+  proper : Premise → AllByRecursion IsProperDeed deeds
   none_refused : (ran file deeds from).refused ≡ None
   state_is : (ran file deeds from).state ≡ run.state
   reports_are : run.reports ≡ (ran file deeds from).reports ++ ending run.status run.state
@@ -123,13 +123,13 @@ unfolding ran
 finished_done file state P (Some f) = ended file state P (fault_status f) (fault_ends f)
 finished_done file state P None = record { deeds = []; proper = λ p. tt; none_refused = refl; state_is = refl; reports_are = refl }
 
-all_of_both : (ds es : List Deed) → AllByRecursion IsProper ds → AllByRecursion IsProper es → AllByRecursion IsProper (ds ++ es)
+all_of_both : (ds es : List Deed) → AllByRecursion IsProperDeed ds → AllByRecursion IsProperDeed es → AllByRecursion IsProperDeed (ds ++ es)
 all_of_both [] es all more = more
 all_of_both (d ∷ ds) es all more = (all.0, all_of_both ds es all.1 more)
 
 -- a run that goes on behind each state goes on behind a line
 on_done : (file : CaptureFile) (n : ℕ) (ds : List Deed) (state : State) (P : Type 0) (R : State → Run → Type 0) (run : Run) (o : Option Refusal)
-    → (ran file ds state).refused ≡ o → (P → AllByRecursion IsProper ds) → RunsOn n o (ran file ds state) R run
+    → (ran file ds state).refused ≡ o → (P → AllByRecursion IsProperDeed ds) → RunsOn n o (ran file ds state) R run
     → ((s : State) (rest : Run) → R s rest → IsDoneFrom file s P rest) → IsDoneFrom file state P run
 on_done file n ds state P R run (Some why) is all e more =
     let did = ran file ds state in
@@ -183,7 +183,7 @@ from_done Has file n (line ∷ lines) state run (o, has, runs) =
 pub record HasDeeds (file : CaptureFile) (Premise : Type 0) (run : Run) : Type 0 where
   pub deeds : List Deed
   pub done : IsDoneBy file run deeds
-  pub proper : Premise → AllByRecursion IsProper deeds
+  pub proper : Premise → AllByRecursion IsProperDeed deeds
   pub head : (file.head ≡ None) ⊎ (deeds ≡ [])
 
 deeds_of : (file : CaptureFile) (P : Type 0) (run : Run) → (k : IsDoneFrom file start P run) → (file.head ≡ None) ⊎ (k.deeds ≡ [])

@@ -13,7 +13,7 @@ use Rattle.gs_frames.specs.Handed.{handed, handed_through}
 use Rattle.gs_frames.specs.Asks.{asks, asks_of}
 use Rattle.gs_stream.specs.Video.{video_stream}
 use Rattle.gs_input.specs.declared.event.Event.TheVariants.{KeyDown, KeyUp}
-use Rattle.gs_enet.specs.Receive.{received as command_received}
+use Rattle.gs_enet.specs.Receive.{command_received}
 use Rattle.gs_enet.specs.Steps.{with_message}
 use Rattle.gs_enet.specs.Write.{next_items, wrote_next}
 use Rattle.gs_schedule.specs.declared.output.Output.{Output}
@@ -22,10 +22,10 @@ use Rattle.gs_run.specs.CaptureFile.{CaptureFile}
 use Rattle.gs_run.specs.Session.{start}
 use Rattle.gs_run.specs.Deed.{Deed, Open, Capture, In, Turn, TakeVideo, TakeUp, Give, Reset}
 use Rattle.gs_run.specs.Message.{act_of}
-use Rattle.gs_run.specs.Connection.{settled}
+use Rattle.gs_run.specs.Connection.{settled_part}
 use Rattle.gs_enet.specs.Sides.{written_out}
 use Rattle.gs_run.specs.Hearing.{up_taken, down_taken}
-use Rattle.gs_run.specs.Opening.{opened_part, opened}
+use Rattle.gs_run.specs.Opening.{opened_part, opened_session}
 use Rattle.gs_run.specs.Streaming.{turned, video_taken, reset}
 use Rattle.gs_run.specs.Giving.{given}
 use Rattle.gs_run.specs.Refusal.{refusal}
@@ -72,7 +72,7 @@ narrow = Open 1024 0 0 1
 re_entry : outputs against_all (narrow ∷ send ++ video 1 ∷ send ++ send ++ video 3 ∷ send ++ video 4 ∷ up 3 ∷ send ++ video 5 ∷ [])
     ≡ output.Sent 1 1 2 1 0 ∷ output.Hand 1 1 2 5 ∷ output.Sent 1 2 1 2 1 ∷ output.Sent 1 3 1 3 2 ∷ output.Ask 1 2 2
     ∷ output.Sent 1 4 1 4 3 ∷ output.Invalid 1 2 2 ∷ output.Sent 1 5 5 5 1 ∷ output.Hand 1 5 5 4 ∷ []
-unfolding ran refusal after opened opened_part turned video_taken up_taken down_taken settled written_out
+unfolding ran refusal after opened_session opened_part turned video_taken up_taken down_taken settled_part written_out
     frame_datagrams frame_shards fec_plan frame_image frame_of received counting complete settled_frame handed handed_through asks asks_of video_stream
     command_received with_message next_items wrote_next act_of
 re_entry = refl
@@ -85,7 +85,7 @@ two_losses : outputs against_all
     ∷ output.Sent 1 4 1 4 3 ∷ output.Sent 1 5 1 5 4 ∷ output.Ask 1 4 4 ∷ output.Invalid 1 2 2 ∷ output.Sent 1 6 5 6 1
     ∷ output.Invalid 1 4 4 ∷ output.Sent 1 7 5 7 1 ∷ output.Ask 1 6 6 ∷ output.Hand 1 7 5 4 ∷ output.Invalid 1 6 6
     ∷ output.Sent 1 8 5 8 1 ∷ output.Hand 1 8 5 4 ∷ []
-unfolding ran refusal after opened opened_part turned video_taken up_taken down_taken settled written_out
+unfolding ran refusal after opened_session opened_part turned video_taken up_taken down_taken settled_part written_out
     frame_datagrams frame_shards fec_plan frame_image frame_of received counting complete settled_frame handed handed_through asks asks_of video_stream
     command_received with_message next_items wrote_next act_of
 two_losses = refl
@@ -95,7 +95,7 @@ out_of_order : outputs against_all
     (narrow ∷ send ++ video 1 ∷ send ++ send ++ video 3 ∷ send ++ send ++ video 5 ∷ up 4 ∷ up 3 ∷ up 4 ∷ [])
     ≡ output.Sent 1 1 2 1 0 ∷ output.Hand 1 1 2 5 ∷ output.Sent 1 2 1 2 1 ∷ output.Sent 1 3 1 3 2 ∷ output.Ask 1 2 2
     ∷ output.Sent 1 4 1 4 3 ∷ output.Sent 1 5 1 5 4 ∷ output.Ask 1 4 4 ∷ output.Invalid 1 2 2 ∷ output.Invalid 1 4 4 ∷ []
-unfolding ran refusal after opened opened_part turned video_taken up_taken down_taken settled written_out
+unfolding ran refusal after opened_session opened_part turned video_taken up_taken down_taken settled_part written_out
     frame_datagrams frame_shards fec_plan frame_image frame_of received counting complete settled_frame handed handed_through asks asks_of video_stream
     command_received with_message next_items wrote_next act_of
 out_of_order = refl
@@ -105,7 +105,7 @@ after_reset : outputs against_all
     (narrow ∷ send ++ video 1 ∷ In 1 Reset ∷ send ++ video 2 ∷ up 3 ∷ send ++ video 3 ∷ [])
     ≡ output.Sent 1 1 2 1 0 ∷ output.Hand 1 1 2 5 ∷ output.Reset 1 ∷ output.Sent 1 2 1 2 1 ∷ output.Idr 1
     ∷ output.Sent 1 3 2 3 0 ∷ output.Hand 1 3 2 5 ∷ []
-unfolding ran refusal after opened opened_part turned video_taken up_taken down_taken reset settled written_out
+unfolding ran refusal after opened_session opened_part turned video_taken up_taken down_taken reset settled_part written_out
     frame_datagrams frame_shards fec_plan frame_image frame_of received counting complete settled_frame handed handed_through asks asks_of video_stream
     command_received with_message next_items wrote_next act_of
 after_reset = refl
@@ -114,7 +114,8 @@ after_reset = refl
 no_delta : outputs (silent (tick 1 1 65 [] ∷ tick 2 1 66 (1 ∷ []) ∷ tick 3 1 67 (1 ∷ []) ∷ []))
     (narrow ∷ send ++ send ++ send ++ In 1 Turn ∷ [])
     ≡ output.Sent 1 1 2 1 0 ∷ output.Sent 1 2 1 2 1 ∷ output.Sent 1 3 2 3 0 ∷ []
-unfolding ran refusal after opened opened_part turned settled written_out up_taken down_taken command_received with_message next_items wrote_next act_of
+unfolding ran refusal after opened_session opened_part turned settled_part written_out up_taken down_taken command_received with_message next_items wrote_next
+    act_of
 no_delta = refl
 
 -- Two frames of two packets each. Once the second begins, what is left of the first is old.
@@ -126,7 +127,7 @@ crossed = send ++ send ++ video 1 ∷ video 3 ∷ video 2 ∷ video 4 ∷ []
 
 moving_on : outputs two_packets (narrow ∷ crossed)
     ≡ output.Sent 1 1 2 1 0 ∷ output.Sent 1 2 2 2 0 ∷ output.Ask 1 1 1 ∷ output.Hand 1 2 2 1500 ∷ []
-unfolding ran refusal after opened opened_part turned video_taken up_taken down_taken settled written_out
+unfolding ran refusal after opened_session opened_part turned video_taken up_taken down_taken settled_part written_out
     frame_datagrams frame_shards fec_plan frame_image frame_of received counting complete settled_frame handed handed_through asks asks_of video_stream
     command_received with_message next_items wrote_next act_of
 moving_on = refl
@@ -134,7 +135,7 @@ moving_on = refl
 -- With a window of two frames both are handed.
 two_open : outputs two_packets (Open 1024 0 0 2 ∷ crossed)
     ≡ output.Sent 1 1 2 1 0 ∷ output.Sent 1 2 2 2 0 ∷ output.Hand 1 1 2 1500 ∷ output.Hand 1 2 2 1500 ∷ []
-unfolding ran refusal after opened opened_part turned video_taken up_taken down_taken settled written_out
+unfolding ran refusal after opened_session opened_part turned video_taken up_taken down_taken settled_part written_out
     frame_datagrams frame_shards fec_plan frame_image frame_of received counting complete settled_frame handed handed_through asks asks_of video_stream
     command_received with_message next_items wrote_next act_of
 two_open = refl
@@ -144,7 +145,7 @@ waiting : outputs (silent (tick 1 5 65 [] ∷ tick 2 5 66 [] ∷ tick 3 5 67 [] 
     (Open 1024 0 0 2 ∷ send ++ send ++ send ++ video 2 ∷ video 3 ∷ [])
     ≡ output.Sent 1 1 2 1 0 ∷ output.Sent 1 2 2 2 0 ∷ output.Sent 1 3 2 3 0 ∷ output.Ask 1 1 1 ∷ output.Hand 1 2 2 5
     ∷ output.Hand 1 3 2 5 ∷ []
-unfolding ran refusal after opened opened_part turned video_taken up_taken down_taken settled written_out
+unfolding ran refusal after opened_session opened_part turned video_taken up_taken down_taken settled_part written_out
     frame_datagrams frame_shards fec_plan frame_image frame_of received counting complete settled_frame handed handed_through asks asks_of video_stream
     command_received with_message next_items wrote_next act_of
 waiting = refl
@@ -153,5 +154,6 @@ waiting = refl
 two_keys : outputs against_all
     (narrow ∷ In 1 (Give (KeyDown (pos 65) 0)) ∷ In 1 (Give (KeyUp (pos 65) 0)) ∷ up 4 ∷ up 3 ∷ up 3 ∷ up 4 ∷ [])
     ≡ output.Input 1 2 (KeyDown (pos 65) 0) ∷ output.Input 1 2 (KeyUp (pos 65) 0) ∷ []
-unfolding ran refusal after opened opened_part given up_taken down_taken settled written_out command_received with_message next_items wrote_next act_of
+unfolding ran refusal after opened_session opened_part given up_taken down_taken settled_part written_out command_received with_message next_items wrote_next
+    act_of
 two_keys = refl

@@ -17,7 +17,7 @@ use Rattle.gs_schedule.specs.declared.status.TrialStatus.TheVariants as status
 use Rattle.gs_schedule.specs.declared.output.Output.{Output}
 use Rattle.gs_schedule.specs.declared.output.Output.TheVariants as output
 use Rattle.gs_run.specs.CaptureFile.{CaptureFile, file_of, generated_file}
-use Rattle.gs_run.specs.Session.{Part, Session, State, start, session_numbered}
+use Rattle.gs_run.specs.Session.{Part, RunSession, State, start, session_numbered}
 use Rattle.gs_run.specs.Report.{Report, plain}
 use Rattle.gs_run.specs.Deed.{Deed}
 use Rattle.gs_run.specs.Done.{ran}
@@ -27,8 +27,8 @@ use Rattle.gs_run.specs.Run.{Run, IsStep}
 use Rattle.gs_run.specs.Generated.{generated_steps}
 use Rattle.gs_run.specs.RunLaws.{IsCapture, IsPairedPart, HandsCaptured, HandsReferences}
 use Rattle.gs_run.specs.RunLaws.{CompletesFrames, PlaysCaptured, TellsInOrder}
-use Rattle.gs_run.specs.ReportLaws.{session_of, lines_of, over_parts, is_hand, is_ask, is_play, is_input}
-use Rattle.gs_run.specs.UserEvents.{GiveEvents, IsProper, TellUsers, RunsTellUsers}
+use Rattle.gs_run.specs.ReportLaws.{session_of, reported_lines, over_parts, is_hand, is_ask, is_play, is_input}
+use Rattle.gs_run.specs.UserEvents.{GiveEvents, IsProperDeed, TellUsers, RunsTellUsers}
 use Rattle.gs_run.specs.WholeRun.{ending, IsDoneBy, PartHolds, EachPartHolds, HaveOnePart, is_entry, is_closed, closed_report, given_by, ReportsAre, LinesHold}
 use Rattle.gs_run.specs.WholeRun.{TellsAll, TellAllOnceClosed, RunsTellAllOnceClosed, StateHolds, RunHolds, RunsHaveDeeds, RunsOfStepsHaveDeeds}
 use Rattle.gs_run.specs.WholeRun.{IsCaptureUnlessFaulty, RunsHold, RunsOfStepsHold, RunsOverBytesHold, GeneratedRunsHold}
@@ -54,10 +54,10 @@ joined : {X : Type 0} (P Q R : X → Type 0) (xs : List X) → ((x : X) → P x 
 joined P Q R [] join p q = tt
 joined P Q R (x ∷ xs) join p q = (join x p.0 q.0, joined P Q R xs join p.1 q.1)
 
-abbrev OfParts : (Part → Type 0) → List Session → Type 0
+abbrev OfParts : (Part → Type 0) → List RunSession → Type 0
 OfParts Holds sessions = AllByRecursion (λ session. AllByRecursion Holds (parts_of session)) sessions
 
-joined_parts : (P Q R : Part → Type 0) (sessions : List Session) → ((part : Part) → P part → Q part → R part) → OfParts P sessions → OfParts Q sessions
+joined_parts : (P Q R : Part → Type 0) (sessions : List RunSession) → ((part : Part) → P part → Q part → R part) → OfParts P sessions → OfParts Q sessions
     → OfParts R sessions
 joined_parts P Q R sessions join p q =
     joined (λ session. AllByRecursion P (parts_of session)) (λ session. AllByRecursion Q (parts_of session))
@@ -104,7 +104,7 @@ lines_are : (kind : Output → Bool) (give : ℕ → Part → List Report) → T
 lines_are kind give tells file deeds number =
     all_reports_of kind give tells file deeds number ∙ same (session_numbered (ran file deeds start).state number)
   where
-    same : (o : Option Session) → given_at give number o ≡ given_by (give number) o
+    same : (o : Option RunSession) → given_at give number o ≡ given_by (give number) o
     same None = refl
     same (Some session) = refl
 
@@ -125,21 +125,21 @@ record IsNoSum (kind : Output → Bool) : Type 0 where
   total : (session frames handed asks inputs units : ℕ) → kind (output.Total session frames handed asks inputs units) ≡ false
   done : kind output.Done ≡ false
 
-passed_by : (kind : Output → Bool) (n : ℕ) (r : Report) (rs : List Report) → kind r.output ≡ false → lines_of kind n (r ∷ rs) ≡ lines_of kind n rs
+passed_by : (kind : Output → Bool) (n : ℕ) (r : Report) (rs : List Report) → kind r.output ≡ false → reported_lines kind n (r ∷ rs) ≡ reported_lines kind n rs
 passed_by kind n r rs isnt = by (kind r.output) isnt where
-  by : (b : Bool) → b ≡ false → cond (b && session_of r.output == n) (r ∷ lines_of kind n rs) (lines_of kind n rs) ≡ lines_of kind n rs
+  by : (b : Bool) → b ≡ false → cond (b && session_of r.output == n) (r ∷ reported_lines kind n rs) (reported_lines kind n rs) ≡ reported_lines kind n rs
   by true e = absurd cc
   by false e = refl
 
-no_totals : (kind : Output → Bool) → IsNoSum kind → (n m : ℕ) (sessions : List Session)
-    → lines_of kind n (totals_from m sessions ++ plain output.Done ∷ []) ≡ []
+no_totals : (kind : Output → Bool) → IsNoSum kind → (n m : ℕ) (sessions : List RunSession)
+    → reported_lines kind n (totals_from m sessions ++ plain output.Done ∷ []) ≡ []
 unfolding total_of
 no_totals kind isnt n m [] = passed_by kind n (plain output.Done) [] isnt.done
 no_totals kind isnt n m (session ∷ sessions) =
     passed_by kind n (total_of m session) (totals_from (m + 1) sessions ++ plain output.Done ∷ []) (isnt.total _ _ _ _ _ _)
     ∙ no_totals kind isnt n (m + 1) sessions
 
-no_ending : (kind : Output → Bool) → IsNoSum kind → (n : ℕ) (why : TrialStatus) (state : State) → lines_of kind n (ending why state) ≡ []
+no_ending : (kind : Output → Bool) → IsNoSum kind → (n : ℕ) (why : TrialStatus) (state : State) → reported_lines kind n (ending why state) ≡ []
 no_ending kind isnt n status.Ok state = no_totals kind isnt n 1 state.sessions
 no_ending kind isnt n (status.Usage word) state = refl
 no_ending kind isnt n status.TapeFault state = refl
@@ -156,8 +156,8 @@ ended_are : (kind : Output → Bool) (give : ℕ → Part → List Report) → I
     → ReportsAre kind give from reports → ReportsAre kind give from (reports ++ ending why state)
 ended_are kind give isnt why from state reports are number =
     filter-append (λ (r : Report). kind r.output && session_of r.output == number) reports (ending why state)
-    ∙ ap (λ (l : List Report). lines_of kind number reports ++ l) (no_ending kind isnt number why state)
-    ∙ append-nil (lines_of kind number reports) ∙ are number
+    ∙ ap (λ (l : List Report). reported_lines kind number reports ++ l) (no_ending kind isnt number why state)
+    ∙ append-nil (reported_lines kind number reports) ∙ are number
 
 ended_hold : (why : TrialStatus) (from state : State) (reports : List Report) → LinesHold from reports → LinesHold from (reports ++ ending why state)
 ended_hold why from state reports are = record {
@@ -214,23 +214,23 @@ tell_all ticks state reports parts one are number session there has =
     by (session_numbered state number) there
     (of_number (λ s. AllByRecursion (TellsInOrder ticks) (parts_of s)) state number parts) (of_number IsOnePart state number one) (are number)
   where
-    some : lines_of is_closed number reports ≡ [] → ⊥
+    some : reported_lines is_closed number reports ≡ [] → ⊥
     some = some_passed (λ (r : Report). is_closed r.output && session_of r.output == number) reports (plain (output.Closed number))
         (eq-eqb number number refl) has
 
-    told_whole : (s : Session) → TellsInOrder ticks s.part → s.earlier ≡ []
-        → lines_of is_closed number reports ≡ over_parts (λ part. flat_map (closed_report number) part.host.peer.told) s → TellsAll s.part
+    told_whole : (s : RunSession) → TellsInOrder ticks s.part → s.earlier ≡ []
+        → reported_lines is_closed number reports ≡ over_parts (λ part. flat_map (closed_report number) part.host.peer.told) s → TellsAll s.part
     told_whole s tells none are = elim (closed_or_none number s.part.host.peer.told) [
       | inl closed ↦ tells.whole closed
       | inr nothing ↦ absurd (some (are ∙ ap (λ (ps : List Part). flat_map (λ (part : Part). flat_map (closed_report number) part.host.peer.told)
           (reverse ps) ++ flat_map (closed_report number) s.part.host.peer.told) none ∙ nothing))
     ]
 
-    by : (o : Option Session) → o ≡ Some session → IfSome o (λ s. AllByRecursion (TellsInOrder ticks) (parts_of s)) → IfSome o IsOnePart
-        → lines_of is_closed number reports ≡ given_by (λ part. flat_map (closed_report number) part.host.peer.told) o → TellsAll session.part
+    by : (o : Option RunSession) → o ≡ Some session → IfSome o (λ s. AllByRecursion (TellsInOrder ticks) (parts_of s)) → IfSome o IsOnePart
+        → reported_lines is_closed number reports ≡ given_by (λ part. flat_map (closed_report number) part.host.peer.told) o → TellsAll session.part
     by None e parts one are = absurd cc
-    by (Some s) e parts one are = subst (λ (x : Session). TellsAll x.part) (same s e) (told_whole s parts.0 one are) where
-      same : (s : Session) → Some s ≡ Some session → s ≡ session
+    by (Some s) e parts one are = subst (λ (x : RunSession). TellsAll x.part) (same s e) (told_whole s parts.0 one are) where
+      same : (s : RunSession) → Some s ≡ Some session → s ≡ session
       same s e = cc
 
 pub runs_tell_all_once_closed : RunsTellAllOnceClosed
@@ -241,19 +241,19 @@ runs_tell_all_once_closed file deeds capture =
 -- ---- states
 
 -- a session's only part holds what each part does
-part_of : (P : Part → Type 0) (state : State) (number : ℕ) (session : Session) → OfParts P state.sessions → session_numbered state number ≡ Some session
+part_of : (P : Part → Type 0) (state : State) (number : ℕ) (session : RunSession) → OfParts P state.sessions → session_numbered state number ≡ Some session
     → P session.part
 part_of P state number session all there =
     by (session_numbered state number) there (of_number (λ s. AllByRecursion P (parts_of s)) state number all)
   where
-    by : (o : Option Session) → o ≡ Some session → IfSome o (λ s. AllByRecursion P (parts_of s)) → P session.part
+    by : (o : Option RunSession) → o ≡ Some session → IfSome o (λ s. AllByRecursion P (parts_of s)) → P session.part
     by None e all = absurd cc
-    by (Some s) e all = subst (λ (x : Session). P x.part) (same s e) all.0 where
-      same : (s : Session) → Some s ≡ Some session → s ≡ session
+    by (Some s) e all = subst (λ (x : RunSession). P x.part) (same s e) all.0 where
+      same : (s : RunSession) → Some s ≡ Some session → s ≡ session
       same s e = cc
 
 tell_users : PacketIsRead → (ticks : List Tick) (file : CaptureFile) (deeds : List Deed) (state : State) (reports : List Report)
-    → AllByRecursion IsProper deeds → OfParts (TellsInOrder ticks) state.sessions → GiveEvents file deeds state → TellAllOnceClosed state reports
+    → AllByRecursion IsProperDeed deeds → OfParts (TellsInOrder ticks) state.sessions → GiveEvents file deeds state → TellAllOnceClosed state reports
     → TellUsers file deeds state reports
 tell_users reads ticks file deeds state reports proper tells given whole number channel session apart there =
     tells_user reads ticks file deeds reports number channel session.part proper
@@ -264,7 +264,7 @@ runs_tell_users reads file deeds capture proper =
     tell_users reads file.ticks file deeds (ran file deeds start).state (ran file deeds start).reports proper (runs_tell_in_order file deeds capture)
     (runs_give_events file deeds) (runs_tell_all_once_closed file deeds capture)
 
-state_holds : PacketIsRead → (file : CaptureFile) (deeds : List Deed) (state : State) (reports : List Report) → AllByRecursion IsProper deeds
+state_holds : PacketIsRead → (file : CaptureFile) (deeds : List Deed) (state : State) (reports : List Report) → AllByRecursion IsProperDeed deeds
     → EachPartHolds file state → HaveOnePart state → GiveEvents file deeds state → LinesHold state reports
     → StateHolds file deeds state reports
 state_holds reads file deeds state reports proper parts one given lines =
@@ -293,7 +293,7 @@ parts_of_run were_sent file deeds (inl capture) = parts_hold were_sent file deed
 parts_of_run were_sent file deeds (inr none) =
     subst (λ (ds : List Deed). EachPartHolds file (ran file ds start).state) (sym none) (nothing_ran file)
 
-behind_deeds : PlayedUnitsWereSent → PacketIsRead → (file : CaptureFile) (deeds : List Deed) → AllByRecursion IsProper deeds
+behind_deeds : PlayedUnitsWereSent → PacketIsRead → (file : CaptureFile) (deeds : List Deed) → AllByRecursion IsProperDeed deeds
     → IsCapture file ⊎ (deeds ≡ []) → StateHolds file deeds (ran file deeds start).state (ran file deeds start).reports
 behind_deeds were_sent reads file deeds proper is =
     state_holds reads file deeds (ran file deeds start).state (ran file deeds start).reports proper (parts_of_run were_sent file deeds is)
@@ -306,7 +306,7 @@ front_of file zero deeds (inr none) = inr refl
 front_of file (suc n) deeds (inr none) = inr (ap (λ (ds : List Deed). take (suc n) ds) none)
 
 -- a front of proper deeds is proper
-front_proper : (n : ℕ) (deeds : List Deed) → AllByRecursion IsProper deeds → AllByRecursion IsProper (take n deeds)
+front_proper : (n : ℕ) (deeds : List Deed) → AllByRecursion IsProperDeed deeds → AllByRecursion IsProperDeed (take n deeds)
 front_proper zero deeds all = tt
 front_proper (suc n) [] all = tt
 front_proper (suc n) (deed ∷ deeds) all = (all.0, front_proper n deeds all.1)
@@ -314,7 +314,7 @@ front_proper (suc n) (deed ∷ deeds) all = (all.0, front_proper n deeds all.1)
 -- ---- runs
 
 at_end : PlayedUnitsWereSent → PacketIsRead → (file : CaptureFile) (run : Run) (deeds : List Deed) → IsDoneBy file run deeds
-    → AllByRecursion IsProper deeds → IsCapture file ⊎ (deeds ≡ []) → StateHolds file deeds run.state run.reports
+    → AllByRecursion IsProperDeed deeds → IsCapture file ⊎ (deeds ≡ []) → StateHolds file deeds run.state run.reports
 at_end were_sent reads file run deeds done proper is =
     let did = ran file deeds start in
     let all : StateHolds file deeds did.state (did.reports ++ ending run.status run.state) =

@@ -21,7 +21,7 @@ use Rattle.gs_control.specs.Message.{bytes_of}
 use Rattle.gs_enet.specs.declared.event.PeerEvent.{PeerEvent}
 use Rattle.gs_enet.specs.declared.event.PeerEvent.TheVariants as event
 use Rattle.gs_enet.specs.Record.{PeerRecord, at_moment, connecting}
-use Rattle.gs_enet.specs.Receive.{verify_if, answer_to, received}
+use Rattle.gs_enet.specs.Receive.{verify_if, owed_answer, command_received}
 use Rattle.gs_enet.specs.Steps.{is_full, can_send}
 use Rattle.gs_enet.specs.Write.{next_items, wrote_next}
 use Rattle.gs_enet.specs.Sides.{new_side, written_out}
@@ -36,12 +36,12 @@ use Rattle.gs_run.specs.Message.{Act, Invalidate, AskIdr, Input, Nothing, act_of
 use Rattle.gs_run.specs.Scene.{Scene}
 use Rattle.gs_run.specs.Deed.{SessionDeed, Turn, TakeVideo, TakeAudio, TakeUp, TakeDown, Give, Close, Mark}
 use Rattle.gs_run.specs.Deed as deed
-use Rattle.gs_run.specs.Connection.{both_written_out, with_owed, settled}
+use Rattle.gs_run.specs.Connection.{both_written_out, with_owed, settled_part}
 use Rattle.gs_run.specs.Hearing.{client_reports, client_hears, entry_output, entered, entered_unless_ended, acts_on, host_heard, all_heard, up_taken}
-use Rattle.gs_run.specs.Hearing.{down_taken, timed}
+use Rattle.gs_run.specs.Hearing.{down_taken, timed_part}
 use Rattle.gs_run.specs.Opening.{new_part, opened_part}
 use Rattle.gs_run.specs.Streaming.{turn_entry, newest_sent, turned, with_video_if, video_taken, with_audio_if, audio_taken, reset}
-use Rattle.gs_run.specs.Giving.{given, closed}
+use Rattle.gs_run.specs.Giving.{given, closed_part}
 use Rattle.gs_run.specs.Pump.{marked}
 use Rattle.gs_run.specs.Done.{done_in}
 use Rattle.gs_run.specs.WholeRun.{is_entry, is_closed, entry_reports, closed_report, RunsReportEntries, RunsReportClosed}
@@ -185,7 +185,7 @@ given_gives kind give is n c bytes part = by (is_full part.client.peer c) where
 deed_gives : (kind : Output → Bool) (give : ℕ → List Entry → List PeerEvent → List Report) → IsOfHost kind give
     → (scene : Scene) (d : SessionDeed) (part : Part)
     → gives give scene.session (done_in scene d part).value ≡ gives give scene.session part ++ of_kind kind (done_in scene d part).reports
-unfolding video_taken audio_taken up_taken down_taken closed reset marked
+unfolding video_taken audio_taken up_taken down_taken closed_part reset marked
 deed_gives kind give is scene Turn part = turn_gives kind give is scene part
 deed_gives kind give is scene (TakeVideo k) part = video_gives kind give is scene.session (slice_get (video_of scene.ticks part) (k - 1)) part
 deed_gives kind give is scene (TakeAudio k) part = audio_gives kind give is scene.session (slice_get (audio_of scene.ticks part) (k - 1)) part
@@ -197,7 +197,7 @@ deed_gives kind give is scene (TakeDown k) part =
     (client_lines kind is.lost scene.session (came (slice_get part.host.wrote (k - 1)) scene.moment part.client).peer.waiting)
 deed_gives kind give is scene (Give e) part = given_gives kind give is scene.session (event_channel e) (bytes_of (message.Input e)) part
 deed_gives kind give is scene deed.AskIdr part = given_gives kind give is scene.session request_channel (bytes_of message.IdrRequest) part
-deed_gives kind give is scene Close part = stays kind give scene.session part (closed part) refl refl refl
+deed_gives kind give is scene Close part = stays kind give scene.session part (closed_part part) refl refl refl
 deed_gives kind give is scene deed.Reset part =
     stays kind give scene.session part (reset scene.session part) refl refl
     (one_passed kind (output.Reset scene.session) (is.reset scene.session))
@@ -207,8 +207,8 @@ deed_gives kind give is scene Mark part = stays kind give scene.session part (qu
 
 time_gives : (kind : Output → Bool) (give : ℕ → List Entry → List PeerEvent → List Report) → IsOfHost kind give
     → (n now : ℕ) (part : Part)
-    → gives give n (timed n now part).value ≡ gives give n part ++ of_kind kind (timed n now part).reports
-unfolding timed
+    → gives give n (timed_part n now part).value ≡ gives give n part ++ of_kind kind (timed_part n now part).reports
+unfolding timed_part
 time_gives kind give is n now part =
     let es = (acted (Time now) part.client).peer.waiting in
     let rest = (all_heard n (acted (Time now) part.host).peer.waiting part.history).reports ++ [] in
@@ -231,22 +231,22 @@ with_owed_stays (first ∷ rest) part = by (can_send part.client.peer request_ch
   by true more = record { history = more.history; told = more.told }
   by false more = record { history = refl; told = refl }
 
-settled_stays : (now : ℕ) (part : Part) → StaysTold part (settled now part)
-unfolding settled
+settled_stays : (now : ℕ) (part : Part) → StaysTold part (settled_part now part)
+unfolding settled_part
 settled_stays now part =
     let k = with_owed_stays part.owed part in
     record { history = k.history; told = (kept_out now (with_owed part.owed part).host).told ∙ k.told }
 
-settles : (give : ℕ → List Entry → List PeerEvent → List Report) (n now : ℕ) (part : Part) → gives give n (settled now part) ≡ gives give n part
+settles : (give : ℕ → List Entry → List PeerEvent → List Report) (n now : ℕ) (part : Part) → gives give n (settled_part now part) ≡ gives give n part
 settles give n now part =
     let k = settled_stays now part in
-    ap (λ (h : List Entry). give n h (settled now part).host.peer.told) k.history ∙ ap (give n part.history) k.told
+    ap (λ (h : List Entry). give n h (settled_part now part).host.peer.told) k.history ∙ ap (give n part.history) k.told
 
 tells_host : (kind : Output → Bool) (give : ℕ → List Entry → List PeerEvent → List Report) → IsOfHost kind give → Tells kind (gives give)
 tells_host kind give is = record {
   deed = deed_gives kind give is;
   at_time = time_gives kind give is;
-  time_owned = λ n now part. kind_owned kind n (timed n now part).reports (time_owned n now part);
+  time_owned = λ n now part. kind_owned kind n (timed_part n now part).reports (time_owned n now part);
   settles = settles give;
   opens = is.opens;
   owned = λ scene d part. kind_owned kind scene.session (done_in scene d part).reports (deed_owned scene d part);
@@ -258,14 +258,14 @@ tells_host kind give is = record {
 abbrev answered : (host_id id now : ℕ) → Bool → PeerRecord
 answered host_id id now own =
     let client = written_out now (new_side (connecting 0 id id now)) in
-    verify_if own host_id (answer_to (max now now % 65536) 255 1) (at_moment now client.peer)
+    verify_if own host_id (owed_answer (max now now % 65536) 255 1) (at_moment now client.peer)
 
 -- what the opening makes of the client that read the answer
 abbrev opened_from : (session now : ℕ) → ClientSettings → PeerRecord → Part
 opened_from session now settings client =
     let written = both_written_out now (new_part (session - 1) now settings) in
     let down = (client_hears session (record written { client = record (written.client) { peer = client } })).value in
-    settled now (up_taken session now 2 (settled now down)).value
+    settled_part now (up_taken session now 2 (settled_part now down)).value
 
 -- In the opening the host is told that it is connected, and nothing else.
 record IsQuietOpening (part : Part) : Type 0 where
@@ -273,7 +273,7 @@ record IsQuietOpening (part : Part) : Type 0 where
   history : part.history ≡ []
 
 quiet_opening : (session now : ℕ) (settings : ClientSettings) → IsQuietOpening (opened_part session now settings)
-unfolding opened_part up_taken down_taken settled written_out received next_items wrote_next
+unfolding opened_part up_taken down_taken settled_part written_out command_received next_items wrote_next
 quiet_opening session now settings = by (settings.stream.ssrc == settings.stream.ssrc) (eq-eqb settings.stream.ssrc settings.stream.ssrc refl) where
   by : (own : Bool) → own ≡ true
       → IsQuietOpening (opened_from session now settings (answered (session - 1) settings.stream.ssrc now own))

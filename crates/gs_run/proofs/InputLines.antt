@@ -1,5 +1,5 @@
 -- The lines of input events are those that the host was told.
-use Rattle.std.proofs.Common.{◌≡◌, ◌-◌, ℕ, Bool, true, false, cond, List, [], ◌∷◌, ◌++◌, length, map, Option, Some, None, refl, sym, ap, subst, ◌∙◌, arith}
+use Rattle.std.proofs.Common.{◌≡◌, ◌-◌, ℕ, Bool, true, false, cond, List, [], ◌∷◌, ◌++◌, map, Option, Some, None, refl, sym, ap, subst, ◌∙◌, arith}
 use Rattle.std.specs.Prelude.{◌==◌, slice_get}
 use Rattle.std.proofs.lemmas.Bool.{eqb-false}
 use Rattle.std.specs.List.{flat_map}
@@ -18,7 +18,7 @@ use Rattle.gs_enet.proofs.Lists.{Each}
 use Rattle.gs_enet.proofs.Kept.{messages_on-append}
 use Rattle.gs_enet.specs.declared.event.PeerEvent.{PeerEvent}
 use Rattle.gs_enet.specs.declared.event.PeerEvent.TheVariants as event
-use Rattle.gs_enet.specs.Record.{PeerRecord, given_on, heard, messages_on}
+use Rattle.gs_enet.specs.Record.{given_on, heard, messages_on}
 use Rattle.gs_enet.specs.Steps.{is_full, can_send}
 use Rattle.gs_enet.specs.World.{Side, Send, Time, acted, came}
 use Rattle.gs_schedule.specs.declared.output.Output.TheVariants as output
@@ -30,12 +30,12 @@ use Rattle.gs_run.specs.Message.{event_channel}
 use Rattle.gs_run.specs.Scene.{Scene}
 use Rattle.gs_run.specs.Deed.{SessionDeed, Turn, TakeVideo, TakeAudio, TakeUp, TakeDown, Give, AskIdr, Close, Mark}
 use Rattle.gs_run.specs.Deed as deed
-use Rattle.gs_run.specs.Connection.{both_written_out, with_owed, settled}
+use Rattle.gs_run.specs.Connection.{both_written_out, with_owed, settled_part}
 use Rattle.gs_enet.specs.Sides.{written_out, all_told}
-use Rattle.gs_run.specs.Hearing.{client_reports, entry_output, up_taken, down_taken, timed, all_heard}
+use Rattle.gs_run.specs.Hearing.{client_reports, entry_output, up_taken, down_taken, timed_part, all_heard}
 use Rattle.gs_run.specs.Opening.{new_part, opened_part}
 use Rattle.gs_run.specs.Streaming.{turned, with_video_if, video_taken, with_audio_if, audio_taken, reset}
-use Rattle.gs_run.specs.Giving.{given, closed}
+use Rattle.gs_run.specs.Giving.{given, closed_part}
 use Rattle.gs_run.specs.Pump.{marked}
 use Rattle.gs_run.specs.Done.{done_in}
 use Rattle.gs_run.specs.ReportLaws.{is_input, input_report, RunsReportInputs}
@@ -43,7 +43,7 @@ use Rattle.gs_run.specs.Totals.{ToldInput, input_of, inputs_of}
 use Rattle.gs_run.proofs.Calm.{IsCalm}
 use Rattle.gs_run.proofs.TwoSides.{AreBoth, swapped, out_both, told_both, taken_both, new_gives}
 use Rattle.gs_run.proofs.Uses.{kept_came, calm_came, kept_timed, calm_kept}
-use Rattle.gs_run.proofs.Standing.{kept_out}
+use Rattle.gs_run.proofs.Standing.{calm_all_told, kept_out}
 use Rattle.gs_run.proofs.Reporting.{of_kind, of_kind-append, IsQuiet, one_passed, heard_lines, client_lines, none_passed}
 use Rattle.gs_run.proofs.PartLines.{IsOf, Tells, unchanged, none_owned, down_lines, turn_lines, given_lines, close_lines}
 use Rattle.gs_run.proofs.StateLines.{reports_of}
@@ -81,8 +81,8 @@ with_owed_host (first ∷ rest) part =
     by true more = more
     by false more = refl
 
-settled_told : (now : ℕ) (part : Part) → (settled now part).host.peer.told ≡ part.host.peer.told
-unfolding settled
+settled_told : (now : ℕ) (part : Part) → (settled_part now part).host.peer.told ≡ part.host.peer.told
+unfolding settled_part
 settled_told now part =
     (kept_out now (with_owed part.owed part).host).told ∙ ap (λ (s : Side). s.peer.told) (with_owed_host part.owed part)
 
@@ -128,22 +128,22 @@ up_owned n now k part =
 
 -- ---- time
 
-time_lines : (n now : ℕ) (part : Part) → of_kind is_input (timed n now part).reports
+time_lines : (n now : ℕ) (part : Part) → of_kind is_input (timed_part n now part).reports
     ≡ of_kind is_input ((all_heard n (acted (Time now) part.host).peer.waiting part.history).reports ++ [])
-unfolding timed
+unfolding timed_part
 time_lines n now part =
     let es = (acted (Time now) part.client).peer.waiting in
     let rest = (all_heard n (acted (Time now) part.host).peer.waiting part.history).reports ++ [] in
     of_kind-append is_input (flat_map (client_reports n) es) rest
     ∙ ap (λ (l : List Report). l ++ of_kind is_input rest) (client_lines is_input quiet n es)
 
-time_inputs : (n now : ℕ) (part : Part) → inputs n (timed n now part).value ≡ inputs n part ++ of_kind is_input (timed n now part).reports
-unfolding timed
+time_inputs : (n now : ℕ) (part : Part) → inputs n (timed_part n now part).value ≡ inputs n part ++ of_kind is_input (timed_part n now part).reports
+unfolding timed_part
 time_inputs n now part =
     hears_inputs n part (acted (Time now) part.host) (kept_timed now part.host.peer).told
     ∙ ap (λ (l : List Report). inputs n part ++ l) (sym (time_lines n now part))
 
-time_owned : (n now : ℕ) (part : Part) → Each (IsOf n) (of_kind is_input (timed n now part).reports)
+time_owned : (n now : ℕ) (part : Part) → Each (IsOf n) (of_kind is_input (timed_part n now part).reports)
 time_owned n now part =
     let es = (acted (Time now) part.host).peer.waiting in
     subst (Each (IsOf n)) (sym (time_lines n now part))
@@ -189,7 +189,7 @@ stays n part did same none =
 
 deed_inputs : (scene : Scene) (d : SessionDeed) (part : Part)
     → inputs scene.session (done_in scene d part).value ≡ inputs scene.session part ++ of_kind is_input (done_in scene d part).reports
-unfolding turned video_taken audio_taken down_taken reset closed marked
+unfolding turned video_taken audio_taken down_taken reset closed_part marked
 deed_inputs scene Turn part = stays scene.session part (turned scene part) refl (turn_lines is_input quiet scene part)
 deed_inputs scene (TakeVideo k) part =
     let o = slice_get (video_of scene.ticks part) (k - 1) in
@@ -208,7 +208,7 @@ deed_inputs scene AskIdr part =
     let bytes = bytes_of message.IdrRequest in
     stays scene.session part (given scene.session request_channel bytes part) (given_host scene.session request_channel bytes part)
     (given_lines is_input quiet scene.session request_channel bytes part)
-deed_inputs scene Close part = stays scene.session part (closed part) refl (close_lines is_input part)
+deed_inputs scene Close part = stays scene.session part (closed_part part) refl (close_lines is_input part)
 deed_inputs scene deed.Reset part =
     stays scene.session part (reset scene.session part) refl (one_passed is_input (output.Reset scene.session) refl)
 deed_inputs scene Mark part = stays scene.session part (quietly (marked scene part)) refl refl
@@ -234,7 +234,7 @@ deed_owned scene AskIdr part =
     let bytes = bytes_of message.IdrRequest in
     none_owned is_input scene.session (given scene.session request_channel bytes part).reports
     (given_lines is_input quiet scene.session request_channel bytes part)
-deed_owned scene Close part = none_owned is_input scene.session (closed part).reports (close_lines is_input part)
+deed_owned scene Close part = none_owned is_input scene.session (closed_part part).reports (close_lines is_input part)
 deed_owned scene deed.Reset part = tt
 deed_owned scene Mark part = tt
 
@@ -273,15 +273,9 @@ fresh_owed : (os : List Owed) (part : Part) → os ≡ [] → IsFresh part → I
 fresh_owed [] part e is = record { both = is.both; calm_client = is.calm_client; calm_host = is.calm_host; none = is.none; owed = refl }
 fresh_owed (first ∷ rest) part e is = absurd cc
 
-fresh_settled : (now : ℕ) (part : Part) → IsFresh part → IsFresh (settled now part)
-unfolding settled
+fresh_settled : (now : ℕ) (part : Part) → IsFresh part → IsFresh (settled_part now part)
+unfolding settled_part
 fresh_settled now part is = fresh_written now (with_owed part.owed part) (fresh_owed part.owed part is.owed is)
-
-calm_all_told : (r : PeerRecord) → IsCalm r → IsCalm (all_told r)
-calm_all_told r calm = record {
-  heard_few = λ c. let few = calm.heard_few c in omega (arith, few, ap (λ (l : List PeerEvent). length (messages_on c l)) (append-nil (heard r)));
-  given_few = calm.given_few;
-}
 
 fresh_down : (n now k : ℕ) (part : Part) → IsFresh part → IsFresh (down_taken n now k part).value
 unfolding down_taken
@@ -341,10 +335,10 @@ unfolding opened_part
 opened_inputs n session now settings =
     let written = both_written_out now (new_part (session - 1) now settings) in
     let down = (down_taken session now 1 written).value in
-    let up = (up_taken session now 2 (settled now down)).value in
+    let up = (up_taken session now 2 (settled_part now down)).value in
     let first = fresh_written now (new_part (session - 1) now settings) (fresh_new (session - 1) now settings) in
-    fresh_inputs n (settled now up)
-    (fresh_settled now up (fresh_up session now 2 (settled now down) (fresh_settled now down (fresh_down session now 1 written first))))
+    fresh_inputs n (settled_part now up)
+    (fresh_settled now up (fresh_up session now 2 (settled_part now down) (fresh_settled now down (fresh_down session now 1 written first))))
 
 -- ---- the law
 
@@ -353,7 +347,7 @@ tells_inputs = record {
   deed = deed_inputs;
   at_time = time_inputs;
   time_owned = time_owned;
-  settles = λ n now part. inputs_same n part (settled now part) (settled_told now part);
+  settles = λ n now part. inputs_same n part (settled_part now part) (settled_told now part);
   opens = opened_inputs;
   owned = deed_owned;
 }

@@ -29,13 +29,14 @@ use Rattle.gs_run.specs.Message.{Act, Invalidate, AskIdr, Input, Nothing, act_of
 use Rattle.gs_run.specs.Scene.{Scene}
 use Rattle.gs_run.specs.Deed.{SessionDeed, Turn, TakeVideo, TakeAudio, TakeUp, TakeDown, Give, Close, Mark}
 use Rattle.gs_run.specs.Deed as deed
-use Rattle.gs_run.specs.Hearing.{client_reports, entered, entered_unless_ended, acts_on, host_heard, all_heard, up_taken, down_taken, timed}
+use Rattle.gs_run.specs.Hearing.{client_reports, entered, entered_unless_ended, acts_on, host_heard, all_heard, up_taken, down_taken, timed_part}
 use Rattle.gs_run.specs.Streaming.{turn_entry, newest_sent, turned, with_video_if, video_taken, with_audio_if, audio_taken, reset}
-use Rattle.gs_run.specs.Giving.{given, closed}
+use Rattle.gs_run.specs.Giving.{given, closed_part}
 use Rattle.gs_run.specs.Pump.{marked}
 use Rattle.gs_run.specs.Done.{done_in}
 use Rattle.gs_run.proofs.Reporting.{of_kind}
 use Rattle.gs_run.proofs.PartLines.{IsOf}
+use Rattle.gs_run.proofs.StreamLines.{owned_map}
 
 entered_owned : (n : ℕ) (e : Entry) (h : List Entry) → Each (IsOf n) (entered n e h).reports
 entered_owned n (entry.Sent tick kind reference) h = (refl, tt)
@@ -79,10 +80,6 @@ client_owned n (event.Connected ∷ es) = client_owned n es
 client_owned n (event.Closed ∷ es) = client_owned n es
 client_owned n (event.PeerClosed ∷ es) = client_owned n es
 
-map_owned : {X : Type 0} (n : ℕ) (f : X → Report) → ((x : X) → IsOf n (f x)) → (xs : List X) → Each (IsOf n) (map f xs)
-map_owned n f of [] = tt
-map_owned n f of (x ∷ xs) = (of x, map_owned n f of xs)
-
 turn_owned : (scene : Scene) (part : Part) → Each (IsOf scene.session) (turned scene part).reports
 unfolding turned
 turn_owned scene part =
@@ -103,12 +100,12 @@ video_owned n (Some bytes) part =
     let lost = as_list (newly_asked part.settings (Datagram bytes) part.came) in
     let frames = newly_handed part.settings (Datagram bytes) part.came in
     each_append (IsOf n) (map (ask_report n) lost) (map (hand_report n) frames)
-    (map_owned n (ask_report n) (λ (r : Range). refl) lost) (map_owned n (hand_report n) (λ (f : Handed). refl) frames)
+    (owned_map n (ask_report n) (λ (r : Range). refl) lost) (owned_map n (hand_report n) (λ (f : Handed). refl) frames)
 
 audio_owned : (n : ℕ) (o : Option (List ℕ)) (part : Part) → Each (IsOf n) (with_audio_if n o part).reports
 audio_owned n None part = tt
 audio_owned n (Some bytes) part =
-    map_owned n (play_report n) (λ (u : PlayedUnit). refl) (newly_played part.settings.stream bytes part.sound)
+    owned_map n (play_report n) (λ (u : PlayedUnit). refl) (newly_played part.settings.stream bytes part.sound)
 
 given_owned : (n c : ℕ) (bytes : List ℕ) (part : Part) → Each (IsOf n) (given n c bytes part).reports
 unfolding given
@@ -121,7 +118,7 @@ given_owned n c bytes part = by (is_full part.client.peer c) where
   by false = tt
 
 pub deed_owned : (scene : Scene) (d : SessionDeed) (part : Part) → Each (IsOf scene.session) (done_in scene d part).reports
-unfolding video_taken audio_taken up_taken down_taken closed reset marked
+unfolding video_taken audio_taken up_taken down_taken closed_part reset marked
 deed_owned scene Turn part = turn_owned scene part
 deed_owned scene (TakeVideo k) part = video_owned scene.session (slice_get (video_of scene.ticks part) (k - 1)) part
 deed_owned scene (TakeAudio k) part = audio_owned scene.session (slice_get (audio_of scene.ticks part) (k - 1)) part
@@ -135,8 +132,8 @@ deed_owned scene Close part = tt
 deed_owned scene deed.Reset part = (refl, tt)
 deed_owned scene Mark part = tt
 
-pub time_owned : (n now : ℕ) (part : Part) → Each (IsOf n) (timed n now part).reports
-unfolding timed
+pub time_owned : (n now : ℕ) (part : Part) → Each (IsOf n) (timed_part n now part).reports
+unfolding timed_part
 time_owned n now part =
     each_append (IsOf n) (flat_map (client_reports n) (acted (Time now) part.client).peer.waiting)
     ((all_heard n (acted (Time now) part.host).peer.waiting part.history).reports ++ [])

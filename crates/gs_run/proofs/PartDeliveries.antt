@@ -20,21 +20,23 @@ use Rattle.gs_enet.specs.declared.event.PeerEvent.TheVariants as event
 use Rattle.gs_enet.specs.Record.{channels}
 use Rattle.gs_enet.specs.Steps.{can_send}
 use Rattle.gs_enet.specs.World.{Side, Written, Send, acted, came}
-use Rattle.gs_run.specs.Session.{Marks, Part, video_of, audio_of}
+use Rattle.gs_run.specs.Session.{PartMarks, Part, video_of, audio_of}
 use Rattle.gs_client_core.specs.Owed.{request_channel, owed_message}
 use Rattle.gs_client_core.specs.declared.asker.Owed.TheVariants.{Lost}
 use Rattle.gs_client_core.specs.declared.asker.Owed.{Owed}
 use Rattle.gs_run.specs.Message.{Act, Invalidate, AskIdr, Input, Nothing, act_of}
 use Rattle.gs_run.specs.Scene.{Scene}
 use Rattle.gs_run.specs.Deed.{SessionDeed, TakeVideo, TakeAudio, TakeUp, TakeDown, Mark}
-use Rattle.gs_run.specs.Connection.{with_owed, settled}
+use Rattle.gs_run.specs.Connection.{with_owed, settled_part}
 use Rattle.gs_run.specs.Hearing.{entered, entered_unless_ended, acts_on, host_heard, all_heard, up_taken, down_taken}
 use Rattle.gs_refs.specs.Answers.{named_range, is_range_sent}
 use Rattle.gs_run.specs.Streaming.{with_video_if, video_taken, with_audio_if, audio_taken}
 use Rattle.gs_run.specs.Pump.{Pumping, ends_of, is_kept, next_kept, next_above, or_else, next_control}
 use Rattle.gs_run.specs.Deliveries.{deliveries_of, all_deliveries, deliveries_by, control_deliveries}
 use Rattle.gs_run.specs.PumpLaws.{LeavesFewer, PumpsAdvance}
+use Rattle.gs_bytes.proofs.Lists.{some_within}
 use Rattle.gs_run.proofs.SideDeliveries.{sent_leaves, came_leaves, written_out_leaves, next_of_later}
+use Rattle.gs_run.proofs.Uses.{wrote_came}
 
 -- ---- how many datagrams of the streams there are
 
@@ -65,11 +67,11 @@ owed_same (first ∷ rest) part =
     by true next settings history same = record { settings = same.settings ∙ settings; history = same.history ∙ history }
     by false next settings history same = record { settings = refl; history = refl }
 
-settled_ends : (ticks : List Tick) (now : ℕ) (part : Part) → SameEnds ticks part (settled now part)
-unfolding settled
+settled_ends : (ticks : List Tick) (now : ℕ) (part : Part) → SameEnds ticks part (settled_part now part)
+unfolding settled_part
 settled_ends ticks now part =
     let same = owed_same part.owed part in
-    same_ends ticks part (settled now part) (record { settings = same.settings; history = same.history })
+    same_ends ticks part (settled_part now part) (record { settings = same.settings; history = same.history })
 
 -- ---- what the host hears sends nothing
 
@@ -129,7 +131,7 @@ down_ends ticks session now k part = record { video = refl; audio = refl }
 
 -- ---- behind a deed what is owed is given, and both sides write out
 
-owed_leaves : (os : List Owed) (at : Marks) (part : Part) → control_deliveries at (with_owed os part) ≤ control_deliveries at (record part { owed = os })
+owed_leaves : (os : List Owed) (at : PartMarks) (part : Part) → control_deliveries at (with_owed os part) ≤ control_deliveries at (record part { owed = os })
 owed_leaves [] at part = omega arith
 owed_leaves (first ∷ rest) at part =
     let next : Part = record part { client = acted (Send request_channel (owed_message first)) part.client } in
@@ -144,8 +146,8 @@ owed_leaves (first ∷ rest) at part =
     by true next h = h
     by false next h = omega arith
 
-settled_leaves : (now : ℕ) (at : Marks) (part : Part) → control_deliveries at (settled now part) ≤ control_deliveries at part
-unfolding settled
+settled_leaves : (now : ℕ) (at : PartMarks) (part : Part) → control_deliveries at (settled_part now part) ≤ control_deliveries at part
+unfolding settled_part
 settled_leaves now at part =
     let given = with_owed part.owed part in
     let owed = owed_leaves part.owed at part in
@@ -160,11 +162,11 @@ asks_once None = omega arith
 asks_once (Some range) = omega arith
 
 -- behind a datagram of the streams the client may owe one request more
-record TookStream (ticks : List Tick) (at : Marks) (more : ℕ) (old new : Part) : Type 0 where
+record TookStream (ticks : List Tick) (at : PartMarks) (more : ℕ) (old new : Part) : Type 0 where
   ends : SameEnds ticks old new
   control : control_deliveries at new ≤ control_deliveries at old + more
 
-video_took : (ticks : List Tick) (at : Marks) (session : ℕ) (o : Option (List ℕ)) (part : Part)
+video_took : (ticks : List Tick) (at : PartMarks) (session : ℕ) (o : Option (List ℕ)) (part : Part)
     → TookStream ticks at 4 part (with_video_if session o part).value
 video_took ticks at session None part = record { ends = record { video = refl; audio = refl }; control = omega arith }
 video_took ticks at session (Some bytes) part =
@@ -173,7 +175,7 @@ video_took ticks at session (Some bytes) part =
     let owed = length-append part.owed (map Lost (as_list lost)) in
     record { ends = record { video = refl; audio = refl }; control = omega (arith, once, owed) }
 
-audio_took : (ticks : List Tick) (at : Marks) (session : ℕ) (o : Option (List ℕ)) (part : Part)
+audio_took : (ticks : List Tick) (at : PartMarks) (session : ℕ) (o : Option (List ℕ)) (part : Part)
     → TookStream ticks at 0 part (with_audio_if session o part).value
 audio_took ticks at session None part = record { ends = record { video = refl; audio = refl }; control = omega arith }
 audio_took ticks at session (Some bytes) part = record { ends = record { video = refl; audio = refl }; control = omega arith }
@@ -202,15 +204,6 @@ audio_leaves scene pumping part k least most =
 
 -- ---- the deliveries of control datagrams
 
-some_within : {X : Type 0} (xs : List X) (n : ℕ) → n < length xs → (x : X) × (slice_get xs n ≡ Some x)
-some_within [] n below = absurd (omega (arith, below))
-some_within (x ∷ xs) zero below = (x, refl)
-some_within (x ∷ xs) (suc n) below = some_within xs n (omega (arith, below))
-
-came_wrote : (o : Option Written) (now : ℕ) (s : Side) → (came o now s).wrote ≡ s.wrote
-came_wrote None now s = refl
-came_wrote (Some w) now s = refl
-
 -- one side's next datagram came to the other
 record TookControl (at now : ℕ) (written : List Written) (side : Side) : Type 0 where
   left : deliveries_by (came (slice_get written (at + 1 - 1)) now side).peer + all_deliveries (drop (at + 1) written) + 1
@@ -229,14 +222,14 @@ took_control at now written side below =
     let later : all_deliveries (drop at written) ≡ deliveries_of w + all_deliveries (drop (at + 1) written) =
     next_of_later at written w found.1
     ∙ ap (λ (n : ℕ). deliveries_of w + all_deliveries (drop n written)) (let e : suc at ≡ at + 1 = omega arith in e) in
-    record { left = omega (arith, one, later); wrote = came_wrote (slice_get written (at + 1 - 1)) now side }
+    record { left = omega (arith, one, later); wrote = wrote_came (slice_get written (at + 1 - 1)) now side }
 
 up_leaves : (scene : Scene) (pumping : Pumping) (part : Part) → pumping.at.up < length part.client.wrote
     → LeavesFewer scene pumping part (TakeUp (pumping.at.up + 1))
 unfolding up_taken
 up_leaves scene pumping part below =
     let up : ℕ = pumping.at.up in
-    let at : Marks = record (pumping.at) { up = up + 1 } in
+    let at : PartMarks = record (pumping.at) { up = up + 1 } in
     let did : Part = (up_taken scene.session scene.moment (up + 1) part).value in
     let took = took_control up scene.moment part.client.wrote part.host below in
     let wrote = ap (λ (l : List Written). all_deliveries (drop pumping.at.down l)) took.wrote in
@@ -250,7 +243,7 @@ down_leaves : (scene : Scene) (pumping : Pumping) (part : Part) → pumping.at.d
 unfolding down_taken
 down_leaves scene pumping part below =
     let down : ℕ = pumping.at.down in
-    let at : Marks = record (pumping.at) { down = down + 1 } in
+    let at : PartMarks = record (pumping.at) { down = down + 1 } in
     let did : Part = (down_taken scene.session scene.moment (down + 1) part).value in
     let took = took_control down scene.moment part.host.wrote part.client below in
     let wrote = ap (λ (l : List Written). all_deliveries (drop pumping.at.up l)) took.wrote in
@@ -322,7 +315,7 @@ control_chosen scene pumping part false d is =
 
 pub pumps_advance : PumpsAdvance
 pumps_advance scene every pumping part some =
-    let ends : Marks = ends_of scene part in
+    let ends : PartMarks = ends_of scene part in
     chosen (LeavesFewer scene pumping part) (option_map TakeVideo (next_kept every pumping.at.video ends.video))
     (option_map TakeAudio (next_kept every pumping.at.audio ends.audio)) (next_control pumping ends)
     (of_mapped (LeavesFewer scene pumping part) TakeVideo (next_kept every pumping.at.video ends.video) (λ k e.

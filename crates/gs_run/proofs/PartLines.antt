@@ -24,11 +24,11 @@ use Rattle.gs_run.specs.Message.{event_channel}
 use Rattle.gs_run.specs.Scene.{Scene}
 use Rattle.gs_run.specs.Deed.{SessionDeed, Turn, TakeVideo, TakeAudio, TakeUp, TakeDown, Give, AskIdr, Close, Mark}
 use Rattle.gs_run.specs.Deed as deed
-use Rattle.gs_run.specs.Connection.{both_written_out, with_owed, settled}
-use Rattle.gs_run.specs.Hearing.{client_reports, entry_output, entered, up_taken, down_taken, timed, all_heard}
+use Rattle.gs_run.specs.Connection.{both_written_out, with_owed, settled_part}
+use Rattle.gs_run.specs.Hearing.{client_reports, entry_output, entered, up_taken, down_taken, timed_part, all_heard}
 use Rattle.gs_run.specs.Opening.{new_part, opened_part}
 use Rattle.gs_run.specs.Streaming.{newest_sent, turned, with_video_if, video_taken, with_audio_if, audio_taken, reset, turn_entry}
-use Rattle.gs_run.specs.Giving.{given, closed}
+use Rattle.gs_run.specs.Giving.{given, closed_part}
 use Rattle.gs_run.specs.Pump.{marked}
 use Rattle.gs_run.specs.Done.{done_in, settled_in}
 use Rattle.gs_run.specs.ReportLaws.{session_of}
@@ -59,8 +59,8 @@ with_owed_same (first ∷ rest) part =
     by true more = record { settings = more.settings; came = more.came; sound = more.sound }
     by false more = record { settings = refl; came = refl; sound = refl }
 
-pub settled_same : (now : ℕ) (part : Part) → SameStreams part (settled now part)
-unfolding settled
+pub settled_same : (now : ℕ) (part : Part) → SameStreams part (settled_part now part)
+unfolding settled_part
 settled_same now part = let k = with_owed_same part.owed part in record { settings = k.settings; came = k.came; sound = k.sound }
 
 -- ---- kinds of lines that a session's streams give
@@ -72,9 +72,9 @@ IsOf n r = session_of r.output ≡ n
 pub record Tells (kind : Output → Bool) (give : ℕ → Part → List Report) : Type 0 where
   pub deed : (scene : Scene) (d : SessionDeed) (part : Part)
       → give scene.session (done_in scene d part).value ≡ give scene.session part ++ of_kind kind (done_in scene d part).reports
-  pub at_time : (n now : ℕ) (part : Part) → give n (timed n now part).value ≡ give n part ++ of_kind kind (timed n now part).reports
-  pub time_owned : (n now : ℕ) (part : Part) → Each (IsOf n) (of_kind kind (timed n now part).reports)
-  pub settles : (n now : ℕ) (part : Part) → give n (settled now part) ≡ give n part
+  pub at_time : (n now : ℕ) (part : Part) → give n (timed_part n now part).value ≡ give n part ++ of_kind kind (timed_part n now part).reports
+  pub time_owned : (n now : ℕ) (part : Part) → Each (IsOf n) (of_kind kind (timed_part n now part).reports)
+  pub settles : (n now : ℕ) (part : Part) → give n (settled_part now part) ≡ give n part
   pub opens : (n session now : ℕ) (settings : ClientSettings) → give n (opened_part session now settings) ≡ []
   pub owned : (scene : Scene) (d : SessionDeed) (part : Part) → Each (IsOf scene.session) (of_kind kind (done_in scene d part).reports)
 
@@ -85,8 +85,8 @@ settled_tells kind give tells scene d part =
     tells.settles scene.session scene.moment did.value ∙ tells.deed scene d part
     ∙ ap (λ (l : List Report). give scene.session part ++ of_kind kind l) (sym (append-nil did.reports))
 
-pub timed_same : (n now : ℕ) (part : Part) → SameStreams part (timed n now part).value
-unfolding timed
+pub timed_same : (n now : ℕ) (part : Part) → SameStreams part (timed_part n now part).value
+unfolding timed_part
 timed_same n now part = record { settings = refl; came = refl; sound = refl }
 
 trans : (a b c : Part) → SameStreams a b → SameStreams b c → SameStreams a c
@@ -98,11 +98,11 @@ opened_same session now settings =
     let new = new_part (session - 1) now settings in
     let written = both_written_out now new in
     let down = (down_taken session now 1 written).value in
-    let verified = settled now down in
+    let verified = settled_part now down in
     let up = (up_taken session now 2 verified).value in
     let first : SameStreams new down = record { settings = refl; came = refl; sound = refl } in
     let second : SameStreams verified up = record { settings = refl; came = refl; sound = refl } in
-    trans new up (settled now up) (trans new verified up (trans new down verified first (settled_same now down)) second) (settled_same now up)
+    trans new up (settled_part now up) (trans new verified up (trans new down verified first (settled_same now down)) second) (settled_same now up)
 
 -- ---- deeds that report no line of a client's streams
 
@@ -129,8 +129,8 @@ pub down_lines : (kind : Output → Bool) → IsQuiet kind → (n now k : ℕ) (
 unfolding down_taken
 down_lines kind is n now k part = client_lines kind is n (came (slice_get part.host.wrote (k - 1)) now part.client).peer.waiting
 
-pub timed_lines : (kind : Output → Bool) → IsStream kind → (n now : ℕ) (part : Part) → of_kind kind (timed n now part).reports ≡ []
-unfolding timed
+pub timed_lines : (kind : Output → Bool) → IsStream kind → (n now : ℕ) (part : Part) → of_kind kind (timed_part n now part).reports ≡ []
+unfolding timed_part
 timed_lines kind is n now part =
     of_kind-append kind (flat_map (client_reports n) (acted (Time now) part.client).peer.waiting) ((all_heard n (acted
     (Time now) part.host).peer.waiting part.history).reports ++ [])
@@ -198,12 +198,12 @@ down_same : (n now k : ℕ) (part : Part) → SameStreams part (down_taken n now
 unfolding down_taken
 down_same n now k part = record { settings = refl; came = refl; sound = refl }
 
-close_same : (part : Part) → SameStreams part (closed part).value
-unfolding closed
+close_same : (part : Part) → SameStreams part (closed_part part).value
+unfolding closed_part
 close_same part = record { settings = refl; came = refl; sound = refl }
 
-pub close_lines : (kind : Output → Bool) (part : Part) → of_kind kind (closed part).reports ≡ []
-unfolding closed
+pub close_lines : (kind : Output → Bool) (part : Part) → of_kind kind (closed_part part).reports ≡ []
+unfolding closed_part
 close_lines kind part = refl
 
 mark_same : (scene : Scene) (part : Part) → SameStreams part (marked scene part)
@@ -243,7 +243,7 @@ tells_owned kind give is scene (Give e) part =
 tells_owned kind give is scene AskIdr part =
     none_owned kind scene.session (given scene.session request_channel (bytes_of message.IdrRequest) part).reports
     (given_lines kind is.stream.quiet scene.session request_channel (bytes_of message.IdrRequest) part)
-tells_owned kind give is scene Close part = none_owned kind scene.session (closed part).reports (close_lines kind part)
+tells_owned kind give is scene Close part = none_owned kind scene.session (closed_part part).reports (close_lines kind part)
 tells_owned kind give is scene deed.Reset part =
     none_owned kind scene.session (plain (output.Reset scene.session) ∷ []) (one_passed kind (output.Reset scene.session)
     (is.stream.quiet.reset scene.session))
@@ -276,7 +276,7 @@ tells_deed kind give is scene AskIdr part =
     (is.same scene.session part did.value (given_same scene.session request_channel (bytes_of message.IdrRequest) part))
     (given_lines kind is.stream.quiet scene.session request_channel (bytes_of message.IdrRequest) part)
 tells_deed kind give is scene Close part =
-    quiet_deed kind give scene.session part (closed part) (is.same scene.session part (closed part).value (close_same part)) (close_lines kind part)
+    quiet_deed kind give scene.session part (closed_part part) (is.same scene.session part (closed_part part).value (close_same part)) (close_lines kind part)
 tells_deed kind give is scene deed.Reset part =
     let next = record part { came = Reset ∷ part.came } in
     let owing = record next { owed = part.owed ++ Idr ∷ [] } in
@@ -289,10 +289,10 @@ tells_deed kind give is scene Mark part =
 pub tells_of : (kind : Output → Bool) (give : ℕ → Part → List Report) → TellsStreams kind give → Tells kind give
 tells_of kind give is = record {
   deed = tells_deed kind give is;
-  at_time = λ n now part. is.same n part (timed n now part).value (timed_same n now part)
-      ∙ unchanged kind (give n part) (timed n now part).reports (timed_lines kind is.stream n now part);
-  time_owned = λ n now part. none_owned kind n (timed n now part).reports (timed_lines kind is.stream n now part);
-  settles = λ n now part. is.same n part (settled now part) (settled_same now part);
+  at_time = λ n now part. is.same n part (timed_part n now part).value (timed_same n now part)
+      ∙ unchanged kind (give n part) (timed_part n now part).reports (timed_lines kind is.stream n now part);
+  time_owned = λ n now part. none_owned kind n (timed_part n now part).reports (timed_lines kind is.stream n now part);
+  settles = λ n now part. is.same n part (settled_part now part) (settled_same now part);
   opens = λ n session now settings.
       is.empty n (opened_part session now settings) (opened_same session now settings).came (opened_same session now settings).sound;
   owned = tells_owned kind give is;

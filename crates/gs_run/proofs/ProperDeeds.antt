@@ -11,7 +11,7 @@ use Rattle.gs_schedule.specs.declared.step.Step.{Step}
 use Rattle.gs_schedule.specs.declared.step.Step.TheVariants as step
 use Rattle.gs_schedule.specs.Step.{Spells}
 use Rattle.gs_run.specs.CaptureFile.{CaptureFile}
-use Rattle.gs_run.specs.Session.{Session, State, session_numbered}
+use Rattle.gs_run.specs.Session.{RunSession, State, session_numbered}
 use Rattle.gs_run.specs.Report.{Acted}
 use Rattle.gs_run.specs.Scene.{Scene, scene_of}
 use Rattle.gs_run.specs.Deed.{SessionDeed, Turn, TakeVideo, TakeAudio, TakeUp, TakeDown, Give, AskIdr, Close, Reset, Mark, Deed, Open, Capture, Pass, In}
@@ -21,13 +21,13 @@ use Rattle.gs_run.specs.Done.{done}
 use Rattle.gs_run.specs.Line.{HasStep, pumping_from, pump_deed_in, pump_deed, GoesOn, ArePumpDeeds, AreDeeds}
 use Rattle.gs_run.specs.Run.{IsStep}
 use Rattle.gs_run.specs.Generated.{key_event, tick_steps, generated_steps}
-use Rattle.gs_run.specs.UserEvents.{IsProper, IsProperStep}
+use Rattle.gs_run.specs.UserEvents.{IsProperDeed, IsProperStep}
 
 -- ---- a pump
 
 -- the deed is none of the user's
 abbrev IsDelivery : SessionDeed → Type 0
-IsDelivery d = (session : ℕ) → IsProper (In session d)
+IsDelivery d = (session : ℕ) → IsProperDeed (In session d)
 
 one_of : (first second : Option SessionDeed) → IfSome first IsDelivery → IfSome second IsDelivery → IfSome (or_else first second) IsDelivery
 one_of None second a b = b
@@ -56,7 +56,7 @@ control_is pumping up down = by pumping.down_is_next where
   by true = one_of (option_map TakeDown down) (option_map TakeUp up) downs ups
   by false = one_of (option_map TakeUp up) (option_map TakeDown down) ups downs
 
-pumped_is : (scene : Scene) (every : ℕ) (pumping : Pumping) (o : Option Session) → IsDelivery (pump_deed_in scene every pumping o)
+pumped_is : (scene : Scene) (every : ℕ) (pumping : Pumping) (o : Option RunSession) → IsDelivery (pump_deed_in scene every pumping o)
 pumped_is scene every pumping None = λ session. tt
 pumped_is scene every pumping (Some session) =
     let ends = ends_of scene session.part in
@@ -95,38 +95,39 @@ goes_rest Reset (Err why) ds R a = inl a
 goes_rest Reset (Ok acted) ds R a = inr (acted.value, a)
 
 pump_proper : (file : CaptureFile) (session every : ℕ) (pumping : Pumping) (state : State) (ds : List Deed)
-    → ArePumpDeeds file session every pumping state ds → AllByRecursion IsProper ds
+    → ArePumpDeeds file session every pumping state ds → AllByRecursion IsProperDeed ds
 pump_proper file session every pumping state [] a = tt
 pump_proper file session every pumping state (d ∷ ds) a = (
-  subst IsProper (sym a.0) (deed_is file session every pumping state session),
+  subst IsProperDeed (sym a.0) (deed_is file session every pumping state session),
   rest (goes_rest (pump_deed file session every pumping state) (done file d state) ds (λ next. ArePumpDeeds file session every
       (moved (pump_deed file session every pumping state) pumping) next ds) a.1)
       (λ next more. pump_proper file session every (moved (pump_deed file session every pumping state) pumping) next ds more),
 )
   where
-    rest : {R : State → Type 0} → (ds ≡ []) ⊎ ((next : State) × R next) → ((next : State) → R next → AllByRecursion IsProper ds) → AllByRecursion IsProper ds
-    rest (inl none) more = subst (AllByRecursion IsProper) (sym none) tt
+    rest : {R : State → Type 0} → (ds ≡ []) ⊎ ((next : State) × R next) → ((next : State) → R next → AllByRecursion IsProperDeed ds)
+        → AllByRecursion IsProperDeed ds
+    rest (inl none) more = subst (AllByRecursion IsProperDeed) (sym none) tt
     rest (inr (next, is)) more = more next is
 
 -- ---- all steps
 
-one_deed : (d : Deed) (ds : List Deed) → IsProper d → ds ≡ d ∷ [] → AllByRecursion IsProper ds
-one_deed d ds is are = subst (AllByRecursion IsProper) (sym are) (is, tt)
+one_deed : (d : Deed) (ds : List Deed) → IsProperDeed d → ds ≡ d ∷ [] → AllByRecursion IsProperDeed ds
+one_deed d ds is are = subst (AllByRecursion IsProperDeed) (sym are) (is, tt)
 
-each_video : (session : ℕ) (ks : List ℕ) → AllByRecursion IsProper (map (λ k. In session (TakeVideo k)) ks)
+each_video : (session : ℕ) (ks : List ℕ) → AllByRecursion IsProperDeed (map (λ k. In session (TakeVideo k)) ks)
 each_video session [] = tt
 each_video session (k ∷ ks) = (tt, each_video session ks)
 
 pub proper_deeds : (file : CaptureFile) (s : Step) (state : State) (ds : List Deed) → IsProperStep s → AreDeeds file s state ds
-    → AllByRecursion IsProper ds
-proper_deeds file step.Blank state ds is are = subst (AllByRecursion IsProper) (sym are) tt
+    → AllByRecursion IsProperDeed ds
+proper_deeds file step.Blank state ds is are = subst (AllByRecursion IsProperDeed) (sym are) tt
 proper_deeds file (step.Session packet percentage minimum window) state ds is are = one_deed (Open packet percentage minimum window) ds tt are
 proper_deeds file step.Cap state ds is are = one_deed Capture ds tt are
 proper_deeds file (step.Send session) state ds is are = one_deed (In session Turn) ds tt are
 proper_deeds file (step.Video session k) state ds is are = one_deed (In session (TakeVideo k)) ds tt are
 proper_deeds file (step.Audio session k) state ds is are = one_deed (In session (TakeAudio k)) ds tt are
 proper_deeds file (step.Videos session first last) state ds is are =
-    subst (AllByRecursion IsProper) (sym are) (each_video session _)
+    subst (AllByRecursion IsProperDeed) (sym are) (each_video session _)
 proper_deeds file (step.Up session k) state ds is are = one_deed (In session (TakeUp k)) ds tt are
 proper_deeds file (step.Down session k) state ds is are = one_deed (In session (TakeDown k)) ds tt are
 proper_deeds file (step.Input session event) state ds is are = one_deed (In session (Give event)) ds is are

@@ -2,7 +2,7 @@
 use Rattle.std.proofs.Common.{◌≡◌, ◌≢◌, ◌<◌, ◌-◌, ℕ, zero, suc, List, [], ◌∷◌, Option, Some, None, Result, Ok, Err, refl, sym, ap, subst, ◌∙◌, arith}
 use Rattle.std.specs.Prelude.{slice_get}
 use Rattle.gs_run.specs.CaptureFile.{CaptureFile}
-use Rattle.gs_run.specs.Session.{Session, State, session_numbered, replaced, with_session}
+use Rattle.gs_run.specs.Session.{RunSession, State, session_numbered, replaced, with_session}
 use Rattle.gs_run.specs.Report.{Acted}
 use Rattle.gs_run.specs.Scene.{Scene, scene_of}
 use Rattle.gs_run.specs.Deed.{SessionDeed, Turn, TakeVideo, TakeAudio, TakeUp, TakeDown, Give, AskIdr, Close, Reset, Mark, Deed, In}
@@ -16,11 +16,11 @@ use Rattle.gs_run.proofs.StateLines.{here_replaced}
 use Rattle.gs_run.proofs.PartDeliveries.{pumps_advance}
 
 -- what is left to a pump of a session, if it is open
-abbrev left_of : Scene → Pumping → Option Session → ℕ
+abbrev left_of : Scene → Pumping → Option RunSession → ℕ
 left_of scene pumping None = 0
 left_of scene pumping (Some session) = most_deliveries scene pumping session.part
 
-numbered_again : (n : ℕ) (state : State) (old new : Session) → session_numbered state n ≡ Some old
+numbered_again : (n : ℕ) (state : State) (old new : RunSession) → session_numbered state n ≡ Some old
     → session_numbered (with_session n new state) n ≡ Some new
 numbered_again zero state old new e = absurd cc
 numbered_again (suc k) state old new e =
@@ -28,7 +28,7 @@ numbered_again (suc k) state old new e =
     ∙ here_replaced state.sessions k old new e
 
 -- behind a delivery fewer are left
-left_behind : (file : CaptureFile) (number every : ℕ) (pumping : Pumping) (state : State) (o : Option Session) → session_numbered state number ≡ o
+left_behind : (file : CaptureFile) (number every : ℕ) (pumping : Pumping) (state : State) (o : Option RunSession) → session_numbered state number ≡ o
     → pump_deed_in (scene_of file number state) every pumping o ≢ Mark
     → left_of (scene_of file number (after_in (scene_of file number state) (pump_deed_in (scene_of file number state) every pumping o) o state).value)
     (moved (pump_deed_in (scene_of file number state) every pumping o) pumping)
@@ -38,8 +38,8 @@ left_behind file number every pumping state None there some = absurd (some refl)
 left_behind file number every pumping state (Some session) there some =
     let scene : Scene = scene_of file number state in
     let deed : SessionDeed = next_pumped every pumping (ends_of scene session.part) in
-    let new : Session = record session { part = (settled_in scene deed session.part).value } in
-    subst (λ (o : Option Session). left_of scene (moved deed pumping) o < most_deliveries scene pumping session.part)
+    let new : RunSession = record session { part = (settled_in scene deed session.part).value } in
+    subst (λ (o : Option RunSession). left_of scene (moved deed pumping) o < most_deliveries scene pumping session.part)
     (sym (numbered_again number state session new there)) (pumps_advance scene every pumping session.part some)
 
 done_is : (o : Option Refusal) (x acted : Acted State) → unless_refused o x ≡ Ok acted → acted ≡ x
@@ -52,7 +52,7 @@ left_done : (file : CaptureFile) (session every : ℕ) (pumping : Pumping) (stat
     < left_of (scene_of file session state) pumping (session_numbered state session)
 unfolding after pump_deed
 left_done file session every pumping state acted some ok =
-    let o : Option Session = session_numbered state session in
+    let o : Option RunSession = session_numbered state session in
     let scene : Scene = scene_of file session state in
     let deed : SessionDeed = pump_deed_in scene every pumping o in
     subst (λ (x : Acted State). left_of (scene_of file session x.value) (moved deed pumping) (session_numbered x.value session) < left_of scene pumping o)

@@ -1,10 +1,10 @@
 -- Every deed of a run keeps every part of every session, and what follows from it.
 use Rattle.std.proofs.Common.{◌≡◌, ◌+◌, ◌-◌, ℕ, zero, suc, Bool, true, false, not, ◌&&◌, List, [], ◌∷◌, ◌++◌, length, Option, Some, None, refl, sym, ap, subst}
 use Rattle.std.proofs.Common.{◌≤◌, ◌∙◌, arith}
-use Rattle.std.specs.Prelude.{slice_get, nat_lt}
+use Rattle.std.specs.Prelude.{nat_lt}
 use Rattle.std.specs.List.{AllByRecursion, Contains}
 use Rattle.std.specs.Option.{IfSome}
-use Rattle.std.proofs.lemmas.Bool.{and_parts, ltb-true, false≢true}
+use Rattle.std.proofs.lemmas.Bool.{and_parts, ltb-true, not-true}
 use Rattle.std.proofs.lemmas.List.{append_assoc}
 use Rattle.gs_bytes.specs.Prefix.{IsPrefixOf}
 use Rattle.gs_tape.specs.Tick.{Tick}
@@ -13,12 +13,12 @@ use Rattle.gs_frames.specs.Client.{Arrival}
 use Rattle.gs_frames.specs.Received.{taken}
 use Rattle.gs_frames.specs.Complete.{IsComplete}
 use Rattle.gs_frames.specs.Settled.{settled}
-use Rattle.gs_frames.specs.Handed.{Handed, settled_at_resets, is_handed, handed}
+use Rattle.gs_frames.specs.Handed.{settled_at_resets, is_handed, handed}
 use Rattle.gs_frames.specs.HandedLaws.{handed_below}
 use Rattle.gs_frames.specs.declared.range.Range.{Range}
 use Rattle.gs_frames.specs.Asks.{asks}
 use Rattle.gs_stream.proofs.HandedSent.{handed_were_sent}
-use Rattle.gs_stream.proofs.CameWhole.{came_complete, came_handed}
+use Rattle.gs_stream.proofs.CameWhole.{came_complete, came_handed, idr_is_handed}
 use Rattle.gs_pair.proofs.Joined.{references_were_handed}
 use Rattle.gs_audio.specs.PlayedLaws.{PlayedUnitsWereSent}
 use Rattle.gs_audio.proofs.PlayedRise.{played-rise}
@@ -27,21 +27,22 @@ use Rattle.gs_stream.specs.Paired.{invalid_ranges}
 use Rattle.gs_enet.specs.Record.{messages_on, given_on}
 use Rattle.gs_enet.proofs.Lists.{Each}
 use Rattle.gs_enet.proofs.Kept.{messages_on-append}
+use Rattle.gs_enet.proofs.TwoSides.{in_order_from}
 use Rattle.gs_run.specs.CaptureFile.{CaptureFile}
-use Rattle.gs_run.specs.Session.{Part, Session, State, start, session_numbered, replaced}
+use Rattle.gs_run.specs.Session.{Part, RunSession, State, start, session_numbered, replaced}
 use Rattle.gs_client_core.specs.Owed.{request_channel}
 use Rattle.gs_run.specs.Scene.{Scene, scene_of}
 use Rattle.gs_run.specs.Deed.{SessionDeed, Turn, TakeVideo, TakeAudio, TakeUp, TakeDown, Give, AskIdr, Close, Reset, Mark, Deed, Open, Capture, Pass, In}
-use Rattle.gs_run.specs.Hearing.{timed}
-use Rattle.gs_run.specs.Opening.{most_sessions, are_settings, opened}
+use Rattle.gs_run.specs.Hearing.{timed_part}
+use Rattle.gs_run.specs.Opening.{most_sessions, numbers_are_allowed, opened_session}
 use Rattle.gs_run.specs.Pump.{marked}
 use Rattle.gs_run.specs.Refusal.{Refusal, is_client_open, has_made_most, is_allowed, refused_unless, refusal_in, refusal}
 use Rattle.gs_run.specs.Done.{done_in, settled_in, after_in, all_timed, after, unless_refused, ran_on, ran}
 use Rattle.gs_run.specs.Totals.{parts_of}
 use Rattle.gs_run.specs.RunLaws.{IsCapture, OfEachPart, IsPairedPart, RunsArePaired, HandsCaptured, RunsHandCapturedUnits, HandsReferences, RunsHandReferences}
-use Rattle.gs_run.specs.RunLaws.{sent_frame, handing_of, CompletesFrames, RunsCompleteFrames}
+use Rattle.gs_run.specs.RunLaws.{captured_frame, handing_of, CompletesFrames, RunsCompleteFrames}
 use Rattle.gs_run.specs.RunLaws.{PlaysCaptured, RunsPlayCapturedUnits, TellsInOrder, RunsTellInOrder}
-use Rattle.gs_run.proofs.TwoSides.{in_order_from}
+use Rattle.gs_bytes.proofs.Lists.{AllByRecursion-weaker, AllByRecursion-push}
 use Rattle.gs_run.proofs.Heard.{IsFitting}
 use Rattle.gs_run.proofs.Asking.{IsOther, frames_few, is_prefix}
 use Rattle.gs_run.proofs.Standing.{IsKeptPart, settled_keeps}
@@ -49,12 +50,9 @@ use Rattle.gs_run.proofs.Deeds.{each_front, up_keeps, down_keeps, timed_keeps, t
 use Rattle.gs_run.proofs.ClientDeeds.{video_keeps, audio_keeps, reset_keeps, event_keeps, idr_keeps, close_keeps}
 use Rattle.gs_run.proofs.Openings.{opened_keeps}
 use Rattle.gs_run.proofs.SentSound.{session_units, sound_is_of_units}
+use Rattle.gs_run.proofs.OneParts.{of_number}
 
 -- ---- a session
-
-not_is : (b : Bool) → not b ≡ true → b ≡ false
-not_is true e = absurd (false≢true e)
-not_is false e = refl
 
 deed_keeps : (scene : Scene) (deed : SessionDeed) (part : Part) → is_allowed scene deed part ≡ true → IsKeptPart scene.ticks part
     → IsKeptPart scene.ticks (done_in scene deed part).value
@@ -69,7 +67,7 @@ deed_keeps scene AskIdr part test k = idr_keeps scene.ticks scene.session part t
 deed_keeps scene Close part test k = close_keeps scene.ticks part k
 deed_keeps scene Reset part test k =
     let parts = and_parts (is_client_open part) (not (has_made_most request_channel part)) test in
-    reset_keeps scene.ticks scene.session part (not_is (has_made_most request_channel part) parts.1) k
+    reset_keeps scene.ticks scene.session part (not-true (has_made_most request_channel part) parts.1) k
 deed_keeps scene Mark part test k = k
 
 settled_in_keeps : (scene : Scene) (deed : SessionDeed) (part : Part) → is_allowed scene deed part ≡ true → IsKeptPart scene.ticks part
@@ -78,38 +76,21 @@ settled_in_keeps scene deed part test k = settled_keeps scene.ticks scene.moment
 
 -- ---- lists of sessions
 
-abbrev IsKeptSession : List Tick → Session → Type 0
+abbrev IsKeptSession : List Tick → RunSession → Type 0
 IsKeptSession ticks session = AllByRecursion (IsKeptPart ticks) (parts_of session)
 
-abbrev AreKept : List Tick → List Session → Type 0
+abbrev AreKept : List Tick → List RunSession → Type 0
 AreKept ticks sessions = AllByRecursion (IsKeptSession ticks) sessions
 
-all_push : {X : Type 0} (P : X → Type 0) (xs : List X) (x : X) → AllByRecursion P xs → P x → AllByRecursion P (xs ++ x ∷ [])
-all_push P [] x all new = (new, tt)
-all_push P (y ∷ xs) x all new = (all.0, all_push P xs x all.1 new)
-
-all_each : {X : Type 0} (P Q : X → Type 0) (xs : List X) → ((x : X) → P x → Q x) → AllByRecursion P xs → AllByRecursion Q xs
-all_each P Q [] f all = tt
-all_each P Q (x ∷ xs) f all = (f x all.0, all_each P Q xs f all.1)
-
-at_place : {X : Type 0} (P : X → Type 0) (xs : List X) (n : ℕ) → AllByRecursion P xs → IfSome (slice_get xs n) P
-at_place P [] n all = tt
-at_place P (x ∷ xs) zero all = all.0
-at_place P (x ∷ xs) (suc n) all = at_place P xs n all.1
-
-all_replaced : (P : Session → Type 0) (sessions : List Session) (n : ℕ) (session : Session) → AllByRecursion P sessions → P session
+all_replaced : (P : RunSession → Type 0) (sessions : List RunSession) (n : ℕ) (session : RunSession) → AllByRecursion P sessions → P session
     → AllByRecursion P (replaced sessions n session)
 all_replaced P [] n session all new = tt
 all_replaced P (old ∷ sessions) zero session all new = (new, all.1)
 all_replaced P (old ∷ sessions) (suc n) session all new = (all.0, all_replaced P sessions n session all.1 new)
 
-at_number : (P : Session → Type 0) (state : State) (number : ℕ) → AllByRecursion P state.sessions → IfSome (session_numbered state number) P
-at_number P state zero all = tt
-at_number P state (suc n) all = at_place P state.sessions n all
-
 -- ---- all deeds
 
-after_in_keeps : (scene : Scene) (deed : SessionDeed) (o : Option Session) (state : State) → refusal_in scene deed o ≡ None
+after_in_keeps : (scene : Scene) (deed : SessionDeed) (o : Option RunSession) (state : State) → refusal_in scene deed o ≡ None
     → IfSome o (IsKeptSession scene.ticks)
     → AreKept scene.ticks state.sessions → AreKept scene.ticks (after_in scene deed o state).value.sessions
 after_in_keeps scene deed None state test k all = all
@@ -122,31 +103,31 @@ after_in_keeps scene deed (Some session) state test k all =
     allowed true e = refl
     allowed false e = absurd cc
 
-timed_all_keeps : (ticks : List Tick) (number now : ℕ) (sessions : List Session) → AreKept ticks sessions
+timed_all_keeps : (ticks : List Tick) (number now : ℕ) (sessions : List RunSession) → AreKept ticks sessions
     → AreKept ticks (all_timed number now sessions).value
 timed_all_keeps ticks number now [] all = tt
 timed_all_keeps ticks number now (session ∷ sessions) all = (
-  (settled_keeps ticks now (timed number now session.part).value (timed_keeps ticks number now session.part all.0.0), all.0.1),
+  (settled_keeps ticks now (timed_part number now session.part).value (timed_keeps ticks number now session.part all.0.0), all.0.1),
   timed_all_keeps ticks (number + 1) now sessions all.1,
 )
 
-unrefused : (b : Bool) → refused_unless b ≡ None → b ≡ true
+pub unrefused : (b : Bool) → refused_unless b ≡ None → b ≡ true
 unrefused true e = refl
 unrefused false e = absurd cc
 
 after_keeps : (file : CaptureFile) (deed : Deed) (state : State) → IsCapture file → refusal file deed state ≡ None → AreKept file.ticks state.sessions
     → AreKept file.ticks (after file deed state).value.sessions
-unfolding after refusal opened
+unfolding after refusal opened_session
 after_keeps file (Open packet percentage minimum window) state capture test all =
-    let parts = and_parts (nat_lt (length state.sessions) most_sessions) (are_settings packet percentage minimum window)
-    (unrefused (nat_lt (length state.sessions) most_sessions && are_settings packet percentage minimum window) test) in
+    let parts = and_parts (nat_lt (length state.sessions) most_sessions) (numbers_are_allowed packet percentage minimum window)
+    (unrefused (nat_lt (length state.sessions) most_sessions && numbers_are_allowed packet percentage minimum window) test) in
     let few = ltb-true (length state.sessions) most_sessions parts.0 in
-    all_push (IsKeptSession file.ticks) state.sessions _ all
+    AllByRecursion-push (IsKeptSession file.ticks) state.sessions _ all
     (opened_keeps file (length state.sessions + 1) state.moment packet percentage minimum window capture (omega arith) (omega (arith, few)) parts.1, tt)
 after_keeps file Capture state capture test all = all
 after_keeps file (Pass by) state capture test all = timed_all_keeps file.ticks 1 (state.moment + by) state.sessions all
 after_keeps file (In number deed) state capture test all =
-    after_in_keeps (scene_of file number state) deed (session_numbered state number) state test (at_number (IsKeptSession file.ticks) state number all) all
+    after_in_keeps (scene_of file number state) deed (session_numbered state number) state test (of_number (IsKeptSession file.ticks) state number all) all
 
 pub ran_keeps : (file : CaptureFile) (deeds : List Deed) (state : State) → IsCapture file → AreKept file.ticks state.sessions
     → AreKept file.ticks (ran file deeds state).state.sessions
@@ -164,8 +145,8 @@ ran_keeps file (deed ∷ deeds) state capture all = by (refusal file deed state)
 -- what holds of each part that is kept holds of each part of every run
 of_kept : (Holds : List Tick → Part → Type 0) → ((ticks : List Tick) (part : Part) → IsKeptPart ticks part → Holds ticks part) → OfEachPart Holds
 of_kept Holds each file deeds capture =
-    all_each (IsKeptSession file.ticks) (λ session. AllByRecursion (Holds file.ticks) (parts_of session)) (ran file deeds start).state.sessions
-    (λ session all. all_each (IsKeptPart file.ticks) (Holds file.ticks) (parts_of session) (each file.ticks) all)
+    AllByRecursion-weaker (IsKeptSession file.ticks) (λ session. AllByRecursion (Holds file.ticks) (parts_of session)) (ran file deeds start).state.sessions
+    (λ session all. AllByRecursion-weaker (IsKeptPart file.ticks) (Holds file.ticks) (parts_of session) (each file.ticks) all)
     (ran_keeps file deeds start capture tt)
 
 asked_for : (ticks : List Tick) (part : Part) → IsKeptPart ticks part → IsPrefixOf (invalid_ranges part.history) (asks part.settings part.came)
@@ -207,10 +188,6 @@ pub runs_hand_references : RunsHandReferences
 runs_hand_references = of_kept HandsReferences (λ ticks part k.
     references_were_handed part.settings ticks part.history part.came k.window k.history (paired ticks part k).paired)
 
--- an IDR frame is never barred
-idr_passes : (resets : List ℕ) (below : List Handed) (f kind : ℕ) → kind ≡ 2 → is_handed resets below f kind ≡ true
-idr_passes resets below f kind idr = ap (is_handed resets below f) idr
-
 of_all : {all parts : List Arrival} → all ≡ parts → (Holds : List Arrival → Type 0) → Holds parts → Holds all
 of_all is Holds holds = subst Holds (sym is) holds
 
@@ -220,7 +197,7 @@ completes ticks part k =
     let c = part.settings in
     let h = part.history in
     record {
-      complete = λ before after f is whole. of_all is (λ (came : List Arrival). IsComplete c (taken c came) f (sent_frame ticks h f))
+      complete = λ before after f is whole. of_all is (λ (came : List Arrival). IsComplete c (taken c came) f (captured_frame ticks h f))
           (came_complete c ticks h before after f k.history whole);
       handed = λ before after f is whole is_settled passes. of_all is (λ (came : List Arrival). Contains (handed c came) (handing_of ticks h f))
           (came_handed c ticks h before after f k.history whole
@@ -229,7 +206,7 @@ completes ticks part k =
       idr = λ before after f is whole is_settled is_idr. of_all is (λ (came : List Arrival). Contains (handed c came) (handing_of ticks h f))
           (came_handed c ticks h before after f k.history whole
           (subst (λ (came : List Arrival). f ≤ settled c (taken c came)) is is_settled)
-          (idr_passes (settled_at_resets c (after ++ before)) (handed_below c (after ++ before) f) f (frame_kind h f) is_idr));
+          (idr_is_handed (settled_at_resets c (after ++ before)) (handed_below c (after ++ before) f) f (frame_kind h f) is_idr));
     }
 
 pub runs_complete_frames : RunsCompleteFrames

@@ -11,14 +11,14 @@ use Rattle.gs_enet.specs.declared.state.PeerState.TheVariants as state
 use Rattle.gs_enet.specs.Record.{PeerRecord, Content, Connect, VerifyConnect, Disconnect, Message, Unacknowledged, channels, control, datagram_room, is_shut}
 use Rattle.gs_enet.specs.Record.{at_moment, fresh}
 use Rattle.gs_enet.specs.Receive.{takes_messages, expected, message_if, is_next, is_behind, taken_if, is_connect, verified, verify_if, disconnect_if, leave_if}
-use Rattle.gs_enet.specs.Receive.{connected, acknowledged, is_named, acknowledged_if, answer_to, received, all_received}
+use Rattle.gs_enet.specs.Receive.{connected, acknowledged, is_named, acknowledged_if, owed_answer, command_received, all_received}
 use Rattle.gs_enet.specs.Steps.{comes_before, placed, next_number, with_message}
 use Rattle.gs_enet.specs.Write.{Item, Answers, Orders, item_command, order_command, wire_number, is_due, due_if, fitting, going_out, header_room, next_items}
 use Rattle.gs_enet.specs.Write.{written_once, first_written, wrote_next}
 use Rattle.gs_enet.specs.World.{Side, Written, Write, sent_if, one_written, acted, came}
 use Rattle.gs_enet.proofs.Due.{due_after}
 use Rattle.gs_enet.specs.Sides.{writing_within, written_out}
-use Rattle.gs_run.specs.Deliveries.{is_order, deliveries_of, all_deliveries, is_message_content, is_message, deliveries_by}
+use Rattle.gs_run.specs.Deliveries.{is_order, deliveries_of, all_deliveries, is_message_content, carries_message, deliveries_by}
 
 -- ---- counts of members
 
@@ -86,7 +86,7 @@ sent_leaves false channel bytes r = omega arith
 sent_leaves true channel bytes r =
     let u : Unacknowledged = fresh (Message bytes) channel (next_number r channel) in
     let due = placed_more is_due u r.unacknowledged in
-    let messages = placed_more is_message u r.unacknowledged in
+    let messages = placed_more carries_message u r.unacknowledged in
     omega (arith, due, messages)
 
 -- ---- a command that comes
@@ -118,22 +118,22 @@ acknowledged_leaves : (channel number : ℕ) (r : PeerRecord) (o : Option Unackn
     → deliveries_by (acknowledged_if o channel number r) ≤ deliveries_by r
 acknowledged_leaves channel number r None e = omega arith
 acknowledged_leaves channel number r (Some u) e =
-    by (is_message u) refl
+    by (carries_message u) refl
     (content_leaves u.order.content (record r { unacknowledged = filter (λ v. not (is_named channel number v)) r.unacknowledged }))
   where
     due : length (filter is_due (filter (λ v. not (is_named channel number v)) r.unacknowledged)) ≤ length (filter is_due r.unacknowledged)
     due = fewer_both is_due (λ v. not (is_named channel number v)) r.unacknowledged
 
-    by : (b : Bool) → is_message u ≡ b
+    by : (b : Bool) → carries_message u ≡ b
         → deliveries_by (acknowledged u.order.content (record r { unacknowledged = filter (λ v. not (is_named channel number v)) r.unacknowledged }))
         ≤ deliveries_by (record r { unacknowledged = filter (λ v. not (is_named channel number v)) r.unacknowledged }) + cond b 2 0
         → deliveries_by (acknowledged u.order.content (record r { unacknowledged = filter (λ v. not (is_named channel number v)) r.unacknowledged }))
         ≤ deliveries_by r
     by true is after =
-        let less = found_less (is_named channel number) is_message r.unacknowledged u e is in
+        let less = found_less (is_named channel number) carries_message r.unacknowledged u e is in
         omega (arith, after, due, less)
     by false is after =
-        let messages = fewer_both is_message (λ v. not (is_named channel number v)) r.unacknowledged in
+        let messages = fewer_both carries_message (λ v. not (is_named channel number v)) r.unacknowledged in
         omega (arith, after, due, messages)
 
 owing_leaves : (pending : List Answer) (answer : Answer) → length (pending ++ answer ∷ []) ≤ length pending + 1
@@ -143,7 +143,7 @@ verified_leaves : (s : PeerState) (peer : ℕ) (answer : Answer) (r : PeerRecord
 verified_leaves state.Connecting peer answer r =
     let owed = owing_leaves r.pending answer in
     let due = fewer_both is_due (λ (u : Unacknowledged). not (is_connect u.order)) r.unacknowledged in
-    let messages = fewer_both is_message (λ (u : Unacknowledged). not (is_connect u.order)) r.unacknowledged in
+    let messages = fewer_both carries_message (λ (u : Unacknowledged). not (is_connect u.order)) r.unacknowledged in
     omega (arith, owed, due, messages)
 verified_leaves state.Connected peer answer r = let owed = owing_leaves r.pending answer in omega (arith, owed)
 verified_leaves state.Closing peer answer r = let owed = owing_leaves r.pending answer in omega (arith, owed)
@@ -175,21 +175,21 @@ taken_leaves true channel number bytes answer r =
 taken_leaves false channel number bytes answer r = omega arith
 
 order_leaves : (sent : ℕ) (by r : PeerRecord) (content : Content) (channel number : ℕ)
-    → deliveries_by (received sent (order_command content channel number by) r) ≤ deliveries_by r + 1
-unfolding received
+    → deliveries_by (command_received sent (order_command content channel number by) r) ≤ deliveries_by r + 1
+unfolding command_received
 order_leaves sent by r Connect channel number = omega arith
 order_leaves sent by r VerifyConnect channel number =
-    verify_leaves (is_some r.extra && (by.connect_id == r.connect_id)) by.own (answer_to sent control (wire_number number)) r
+    verify_leaves (is_some r.extra && (by.connect_id == r.connect_id)) by.own (owed_answer sent control (wire_number number)) r
 order_leaves sent by r Disconnect channel number =
-    disconnect_leaves r.disconnected (record (answer_to sent control (wire_number number)) { to_disconnect = true }) r
+    disconnect_leaves r.disconnected (record (owed_answer sent control (wire_number number)) { to_disconnect = true }) r
 order_leaves sent by r (Message bytes) channel number =
     taken_leaves (nat_lt channel channels && takes_messages r.state) channel (wire_number number) bytes
-    (answer_to sent channel (wire_number number)) r
+    (owed_answer sent channel (wire_number number)) r
 
 -- ---- a datagram that comes
 
-answer_leaves : (sent : ℕ) (by r : PeerRecord) (answer : Answer) → deliveries_by (received sent (item_command by (Answers answer)) r) ≤ deliveries_by r
-unfolding received
+answer_leaves : (sent : ℕ) (by r : PeerRecord) (answer : Answer) → deliveries_by (command_received sent (item_command by (Answers answer)) r) ≤ deliveries_by r
+unfolding command_received
 answer_leaves sent by r answer = acknowledged_leaves answer.channel answer.number r (find (is_named answer.channel answer.number) r.unacknowledged) refl
 
 all_leave : (sent : ℕ) (by : PeerRecord) (items : List Item) (r : PeerRecord)
@@ -197,11 +197,11 @@ all_leave : (sent : ℕ) (by : PeerRecord) (items : List Item) (r : PeerRecord)
 all_leave sent by [] r = omega arith
 all_leave sent by (Answers answer ∷ items) r =
     let one = answer_leaves sent by r answer in
-    let rest = all_leave sent by items (received sent (item_command by (Answers answer)) r) in
+    let rest = all_leave sent by items (command_received sent (item_command by (Answers answer)) r) in
     omega (arith, one, rest)
 all_leave sent by (Orders order ∷ items) r =
     let one = order_leaves sent by r order.content order.channel order.number in
-    let rest = all_leave sent by items (received sent (item_command by (Orders order)) r) in
+    let rest = all_leave sent by items (command_received sent (item_command by (Orders order)) r) in
     omega (arith, one, rest)
 
 pub came_leaves : (w : Written) (now : ℕ) (s : Side) → deliveries_by (came (Some w) now s).peer + 1 ≤ deliveries_by s.peer + deliveries_of w
@@ -268,7 +268,7 @@ next_front r =
     record { counts = front.counts; within = omega (arith, front.within, due) }
 
 -- the messages stay, written or not
-messages_stay : (now n : ℕ) (us : List Unacknowledged) → length (filter is_message (first_written now n us)) ≡ length (filter is_message us)
+messages_stay : (now n : ℕ) (us : List Unacknowledged) → length (filter carries_message (first_written now n us)) ≡ length (filter carries_message us)
 messages_stay now n [] = refl
 messages_stay now zero (u ∷ us) = refl
 messages_stay now (suc n) (u ∷ us) = here u.due (messages_stay now n us) (messages_stay now (suc n) us) where
@@ -277,12 +277,12 @@ messages_stay now (suc n) (u ∷ us) = here u.due (messages_stay now n us) (mess
   both true v vs ws same = ap (λ (n : ℕ). suc n) same
   both false v vs ws same = same
 
-  here : (b : Bool) → length (filter is_message (first_written now n us)) ≡ length (filter is_message us)
-      → length (filter is_message (first_written now (suc n) us)) ≡ length (filter is_message us)
-      → length (filter is_message (cond b (written_once now u ∷ first_written now n us) (u ∷ first_written now (suc n) us)))
-      ≡ length (filter is_message (u ∷ us))
-  here true one other = both (is_message u) (written_once now u) (filter is_message (first_written now n us)) (filter is_message us) one
-  here false one other = both (is_message u) u (filter is_message (first_written now (suc n) us)) (filter is_message us) other
+  here : (b : Bool) → length (filter carries_message (first_written now n us)) ≡ length (filter carries_message us)
+      → length (filter carries_message (first_written now (suc n) us)) ≡ length (filter carries_message us)
+      → length (filter carries_message (cond b (written_once now u ∷ first_written now n us) (u ∷ first_written now (suc n) us)))
+      ≡ length (filter carries_message (u ∷ us))
+  here true one other = both (carries_message u) (written_once now u) (filter carries_message (first_written now n us)) (filter carries_message us) one
+  here false one other = both (carries_message u) u (filter carries_message (first_written now (suc n) us)) (filter carries_message us) other
 
 all_append : (xs ys : List Written) → all_deliveries (xs ++ ys) ≡ all_deliveries xs + all_deliveries ys
 all_append [] ys = omega arith

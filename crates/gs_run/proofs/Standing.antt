@@ -11,7 +11,7 @@ use Rattle.gs_frames.specs.Asks.{asks}
 use Rattle.gs_stream.specs.HandedLaws.{IsHostHistory}
 use Rattle.gs_stream.specs.Paired.{AreOfHistory, invalid_ranges}
 use Rattle.gs_enet.specs.declared.event.PeerEvent.{PeerEvent}
-use Rattle.gs_enet.specs.Record.{PeerRecord, Given, channels, given_on, given_count, heard, messages_on, at_moment}
+use Rattle.gs_enet.specs.Record.{PeerRecord, GivenMessage, channels, given_on, given_count, heard, messages_on, at_moment}
 use Rattle.gs_enet.specs.Steps.{can_send, with_message}
 use Rattle.gs_enet.specs.Write.{going_out}
 use Rattle.gs_enet.specs.World.{Side, Send, Write, acted, came, sent_if}
@@ -21,7 +21,7 @@ use Rattle.gs_enet.proofs.Acts.{act_both}
 use Rattle.gs_run.specs.Session.{Part}
 use Rattle.gs_client_core.specs.Owed.{request_channel, owed_message}
 use Rattle.gs_client_core.specs.declared.asker.Owed.{Owed}
-use Rattle.gs_run.specs.Connection.{both_written_out, with_owed, settled}
+use Rattle.gs_run.specs.Connection.{both_written_out, with_owed, settled_part}
 use Rattle.gs_enet.specs.Sides.{writing_within, written_out, all_told}
 use Rattle.gs_run.specs.RunLaws.{AreOfSound}
 use Rattle.gs_run.proofs.Calm.{IsCalm, calm_same}
@@ -70,10 +70,10 @@ client_moves {client = client} moved both calm same k = record {
   both = both;
   calm_client = calm;
   calm_host = k.calm_host;
-  few = (let few = k.few in omega (arith, few, ap (λ (g : List Given). length (given_on request_channel g)) same));
+  few = (let few = k.few in omega (arith, few, ap (λ (g : List GivenMessage). length (given_on request_channel g)) same));
   asked = k.asked;
   on_channel = ap (given_on request_channel) same ∙ k.on_channel;
-  others = λ c apart. subst (λ (g : List Given). Each IsOther (given_on c g)) (sym same) (k.others c apart);
+  others = λ c apart. subst (λ (g : List GivenMessage). Each IsOther (given_on c g)) (sym same) (k.others c apart);
   lost = k.lost;
   fitting = k.fitting;
   acted = k.acted;
@@ -128,7 +128,7 @@ written_keeps ticks now part k =
 
 -- ---- telling
 
-calm_all_told : (r : PeerRecord) → IsCalm r → IsCalm (all_told r)
+pub calm_all_told : (r : PeerRecord) → IsCalm r → IsCalm (all_told r)
 calm_all_told r calm = calm_same r (all_told r) refl (λ c. ap (messages_on c) (append-nil (heard r))) calm
 
 pub client_told_keeps : (ticks : List Tick) (part : Part) → IsKeptPart ticks part
@@ -155,14 +155,14 @@ heard_same c bytes s = by (nat_lt c channels && can_send s.peer c) where
   by true = refl
   by false = refl
 
-pub count_more : (c : ℕ) (bytes : List ℕ) (gs : List Given) → length (given_on c (gs ++ giving c bytes)) ≡ length (given_on c gs) + 1
+pub count_more : (c : ℕ) (bytes : List ℕ) (gs : List GivenMessage) → length (given_on c (gs ++ giving c bytes)) ≡ length (given_on c gs) + 1
 count_more c bytes gs = ap (λ (l : List (List ℕ)). length l) (given_on-own c bytes gs) ∙ length-append (given_on c gs) (bytes ∷ [])
 
 pub calm_sent : (c : ℕ) (bytes : List ℕ) (r s : PeerRecord) → s.given ≡ r.given ++ giving c bytes → heard s ≡ heard r
     → given_count r c + 1 ≤ 30000 → IsCalm r → IsCalm s
 calm_sent c bytes r s more same room calm = record {
   heard_few = λ d. let few = calm.heard_few d in omega (arith, few, ap (λ (l : List PeerEvent). length (messages_on d l)) same);
-  given_few = λ d. subst (λ (g : List Given). length (given_on d g) ≤ 30000) (sym more) (by d (c == d) refl);
+  given_few = λ d. subst (λ (g : List GivenMessage). length (given_on d g) ≤ 30000) (sym more) (by d (c == d) refl);
 } where
   by : (d : ℕ) (b : Bool) → (c == d) ≡ b → length (given_on d (r.given ++ giving c bytes)) ≤ 30000
   by d true e =
@@ -191,7 +191,7 @@ gives_owed ticks part first rest can k =
       both = act_both (Send request_channel bytes) part.client part.host k.both;
       calm_client = calm_sent request_channel bytes old moved.peer more (heard_same request_channel bytes part.client) (omega (arith, few)) k.calm_client;
       calm_host = k.calm_host;
-      few = omega (arith, few, ap (λ (g : List Given). length (given_on request_channel g)) more, count_more request_channel bytes old.given);
+      few = omega (arith, few, ap (λ (g : List GivenMessage). length (given_on request_channel g)) more, count_more request_channel bytes old.given);
       asked = k.asked ++ first ∷ [];
       on_channel = ap (given_on request_channel) more ∙ given_on-own request_channel bytes old.given
           ∙ ap (λ (l : List (List ℕ)). l ++ bytes ∷ []) k.on_channel ∙ sym (map-append owed_message k.asked (first ∷ []));
@@ -218,6 +218,6 @@ with_owed_keeps ticks (first ∷ rest) part k =
     by true can given = given can
     by false can given = k
 
-pub settled_keeps : (ticks : List Tick) (now : ℕ) (part : Part) → IsKeptPart ticks part → IsKeptPart ticks (settled now part)
-unfolding settled
+pub settled_keeps : (ticks : List Tick) (now : ℕ) (part : Part) → IsKeptPart ticks part → IsKeptPart ticks (settled_part now part)
+unfolding settled_part
 settled_keeps ticks now part k = written_keeps ticks now (with_owed part.owed part) (with_owed_keeps ticks part.owed part k)

@@ -9,11 +9,12 @@ use Rattle.gs_bytes.specs.Words.{words_of}
 use Rattle.gs_input.specs.declared.event.Event.{Event}
 use Rattle.gs_input.specs.declared.event.Event.TheVariants as event
 use Rattle.gs_input.specs.Event.{IsButton, IsEvent}
-use Rattle.gs_input.specs.Line.{name_of, arguments_of}
+use Rattle.gs_input.specs.Line.{event_name, arguments_of}
 use Rattle.gs_schedule.specs.declared.step.Step.{Step}
 use Rattle.gs_schedule.specs.declared.step.Step.TheVariants as step
 use Rattle.gs_schedule.specs.Step.{HasNumbers, AreWords, most_time, IsBlank, Spells}
 use Rattle.gs_schedule.specs.Lines.{most_line}
+use Rattle.gs_schedule.proofs.Steps.{spelled}
 use Rattle.gs_run.specs.Line.{IsLineOf, HasStep}
 
 abbrev Decided : Type 0 → Type 0
@@ -150,7 +151,7 @@ event_decided (event.Unknown magic) = inr (λ h. h.known)
 
 input_decided : (words : List (List ℕ)) (s : ℕ) (e : Event) → Decided (AreWords words (step.Input s e))
 input_decided words s e =
-    likewise (both (event_decided e) (both (below_decided s (2 ^ 32)) (words_decided words (name_of e ∷ decimal s ∷ arguments_of e))))
+    likewise (both (event_decided e) (both (below_decided s (2 ^ 32)) (words_decided words (event_name e ∷ decimal s ∷ arguments_of e))))
     (λ h. (h.0, h.1.0, h.1.1)) (λ h. (h.0, (h.1, h.2)))
 
 byte_below : (n : ℕ) → n < 2 ^ 8 → n < 2 ^ 32
@@ -361,10 +362,6 @@ step_decided words =
 blank_decided : (line : List ℕ) → Decided (IsBlank line)
 blank_decided [] = inl tt
 blank_decided (byte ∷ line) = cases_eq byte 35
-
-spelled : (line : List ℕ) (s : Step) → AreWords (words_of line) s → Spells line s
-spelled line step.Blank h = absurd h
-spelled line s h = h
 
 spelled_words : (line : List ℕ) → (IsBlank line → ⊥) → (((s : Step) × AreWords (words_of line) s) → ⊥) → (s : Step) → Spells line s → ⊥
 spelled_words line busy none step.Blank h = busy h

@@ -5,8 +5,7 @@ use Rattle.gs_refs.specs.declared.entry.Entry.{Entry}
 use Rattle.gs_refs.specs.declared.entry.Entry.TheVariants as entry
 use Rattle.gs_frames.specs.declared.range.Range.{Range}
 use Rattle.gs_frames.specs.Client.{ClientSettings, Arrival, Datagram, Reset}
-use Rattle.gs_frames.specs.Settled.{settled as settled_frame}
-use Rattle.gs_frames.specs.Handed.{Handed, handed, handed_through, newly_handed}
+use Rattle.gs_frames.specs.Handed.{Handed, handed, newly_handed}
 use Rattle.gs_frames.specs.Asks.{asks, asks_of, as_list, newly_asked}
 use Rattle.gs_frames.proofs.AsksGrow.{arrival_asks}
 use Rattle.gs_frames.proofs.HandedGrows.{arrival_hands, reset_hands_nothing}
@@ -17,10 +16,11 @@ use Rattle.gs_run.specs.Session.{Part, handed_of, asked_of, played_of}
 use Rattle.gs_run.specs.Report.{Report, ask_report, hand_report, play_report}
 use Rattle.gs_run.specs.Hearing.{entry_output}
 use Rattle.gs_run.specs.Streaming.{with_video_if, with_audio_if, reset}
-use Rattle.gs_run.specs.Giving.{closed}
+use Rattle.gs_run.specs.Giving.{closed_part}
 use Rattle.gs_run.specs.ReportLaws.{is_hand, is_ask, is_play}
 use Rattle.gs_run.proofs.Reporting.{of_kind, of_kind-append, none_passed, all_passed}
 use Rattle.gs_run.proofs.PartLines.{IsOf, Tells, unchanged, none_owned, tells_of}
+use Rattle.gs_depack.proofs.Standing.{first-none}
 
 -- ---- the frames that are handed
 
@@ -32,10 +32,6 @@ hand_entries n h (entry.Sent tick kind reference) = refl
 hand_entries n h (entry.Invalid first last) = refl
 hand_entries n h entry.IdrAsked = refl
 hand_entries n h (entry.Ended first last) = refl
-
-no_hands : (settings : ClientSettings) → handed settings [] ≡ []
-unfolding handed handed_through settled_frame
-no_hands settings = refl
 
 hands_video : (n : ℕ) (o : Option (List ℕ)) (part : Part) → hands n (with_video_if n o part).value ≡ hands n part
     ++ of_kind is_hand (with_video_if n o part).reports
@@ -63,7 +59,7 @@ hands_reset n part =
     ∙ append-nil (handed_of part))
 
 -- lines that are made of a list all name the session
-owned_map : {X : Type 0} (n : ℕ) (f : X → Report) → ((x : X) → IsOf n (f x)) → (xs : List X) → Each (IsOf n) (map f xs)
+pub owned_map : {X : Type 0} (n : ℕ) (f : X → Report) → ((x : X) → IsOf n (f x)) → (xs : List X) → Each (IsOf n) (map f xs)
 owned_map n f of [] = tt
 owned_map n f of (x ∷ xs) = (of x, owned_map n f of xs)
 
@@ -96,7 +92,7 @@ tells_hands = tells_of is_hand hands (record {
   same = λ n old new k. subst (λ (s : ClientSettings). map (hand_report n) (handed s new.came) ≡ hands n old) (sym k.settings)
       (ap (λ (c : List Arrival). map (hand_report n) (handed old.settings c)) k.came);
   empty = λ n part none sound. ap (λ (c : List Arrival). map (hand_report n) (handed part.settings c)) none
-      ∙ ap (map (hand_report n)) (no_hands part.settings);
+      ∙ ap (map (hand_report n)) (first-none part.settings);
   video = hands_video;
   audio = hands_audio;
   resets = hands_reset;

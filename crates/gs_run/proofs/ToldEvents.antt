@@ -13,7 +13,7 @@ use Rattle.gs_enet.specs.Record.{given_on, messages_on, told}
 use Rattle.gs_enet.specs.Steps.{is_full}
 use Rattle.gs_schedule.specs.declared.output.Output.TheVariants as output
 use Rattle.gs_run.specs.CaptureFile.{CaptureFile}
-use Rattle.gs_run.specs.Session.{Part, Session, State, start, session_numbered}
+use Rattle.gs_run.specs.Session.{Part, RunSession, State, start, session_numbered}
 use Rattle.gs_run.specs.Report.{Report, plain, Acted}
 use Rattle.gs_run.specs.Message.{Act, Invalidate, AskIdr, Input, Nothing, act_of, event_channel}
 use Rattle.gs_run.specs.Deed.{SessionDeed, Turn, TakeVideo, TakeAudio, TakeUp, TakeDown, Give, Close, Reset, Mark, Deed, Open, Capture, Pass, In}
@@ -22,7 +22,7 @@ use Rattle.gs_run.specs.Refusal.{Refusal}
 use Rattle.gs_run.specs.Done.{done}
 use Rattle.gs_run.specs.Totals.{ToldInput, input_in, input_of}
 use Rattle.gs_run.specs.RunLaws.{TellsInOrder}
-use Rattle.gs_run.specs.UserEvents.{event_message, event_in, event_by, and_events, user_events, IsProper, TellsUser}
+use Rattle.gs_run.specs.UserEvents.{event_message, event_in, event_by, and_events, user_events, IsProperDeed, TellsUser}
 use Rattle.gs_run.specs.WholeRun.{TellsAll}
 use Rattle.gs_run.proofs.InputActs.{input_read}
 
@@ -87,7 +87,7 @@ given_read reads (e ∷ es) all =
     ap (λ (a : Act). event_of a ++ events_in (map event_message es)) (input_read reads e all.0)
     ∙ ap (λ (l : List Event). e ∷ l) (given_read reads es all.1)
 
-in_proper : (c s : ℕ) (d : SessionDeed) (o : Option Session) → IsProper (In s d) → AllByRecursion IsEvent (event_in c d o)
+in_proper : (c s : ℕ) (d : SessionDeed) (o : Option RunSession) → IsProperDeed (In s d) → AllByRecursion IsEvent (event_in c d o)
 in_proper c s (Give e) None is = tt
 in_proper c s (Give e) (Some session) is = by (event_channel e == c && not (is_full session.part.client.peer (event_channel e))) where
   by : (b : Bool) → AllByRecursion IsEvent (cond b (e ∷ []) [])
@@ -103,7 +103,7 @@ in_proper c s Close o is = tt
 in_proper c s Reset o is = tt
 in_proper c s Mark o is = tt
 
-by_proper : (n c : ℕ) (d : Deed) (state : State) → IsProper d → AllByRecursion IsEvent (event_by n c d state)
+by_proper : (n c : ℕ) (d : Deed) (state : State) → IsProperDeed d → AllByRecursion IsEvent (event_by n c d state)
 by_proper n c (Open packet percentage minimum window) state is = tt
 by_proper n c Capture state is = tt
 by_proper n c (Pass by) state is = tt
@@ -116,7 +116,7 @@ all_both : (xs ys : List Event) → AllByRecursion IsEvent xs → AllByRecursion
 all_both [] ys all more = more
 all_both (x ∷ xs) ys all more = (all.0, all_both xs ys all.1 more)
 
-user_proper : (file : CaptureFile) (n c : ℕ) (ds : List Deed) (state : State) → AllByRecursion IsProper ds
+user_proper : (file : CaptureFile) (n c : ℕ) (ds : List Deed) (state : State) → AllByRecursion IsProperDeed ds
     → AllByRecursion IsEvent (user_events file n c ds state)
 unfolding user_events
 user_proper file n c [] state all = tt
@@ -130,7 +130,7 @@ user_proper file n c (d ∷ ds) state all = by (done file d state) (λ next. use
 -- ---- both
 
 pub tells_user : PacketIsRead → (ticks : List Tick) (file : CaptureFile) (deeds : List Deed) (reports : List Report) (number channel : ℕ) (part : Part)
-    → AllByRecursion IsProper deeds → TellsInOrder ticks part
+    → AllByRecursion IsProperDeed deeds → TellsInOrder ticks part
     → given_on channel part.client.peer.given ≡ map event_message (user_events file number channel deeds start)
     → (Contains reports (plain (output.Closed number)) → TellsAll part) → TellsUser file deeds reports number channel part
 tells_user reads ticks file deeds reports number channel part proper tells given whole =

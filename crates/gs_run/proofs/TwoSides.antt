@@ -1,20 +1,17 @@
 -- What the two sides of a connection keep.
-use Rattle.std.proofs.Common.{◌≡◌, ◌≤◌, ℕ, zero, suc, List, [], ◌∷◌, ◌++◌, length, Option, Some, None, refl, sym, ap, subst, ◌∙◌, arith}
+use Rattle.std.proofs.Common.{◌≡◌, ◌≤◌, ℕ, zero, suc, List, [], ◌∷◌, length, Option, Some, None, refl, sym, ap, subst, arith}
 use Rattle.std.specs.Prelude.{slice_get}
-use Rattle.std.proofs.lemmas.List.{append_assoc, append-nil, length-append}
-use Rattle.std.proofs.lemmas.List.Elements.{Contains-append_left}
+use Rattle.std.proofs.lemmas.List.{append-nil, length-append}
 use Rattle.gs_enet.specs.declared.event.PeerEvent.{PeerEvent}
 use Rattle.gs_enet.specs.declared.event.PeerEvent.TheVariants as event
-use Rattle.gs_enet.specs.Record.{PeerRecord, Content, Connect, VerifyConnect, Disconnect, Message, given_on, given_count, messages_on, heard, heard_count, told}
+use Rattle.gs_enet.specs.Record.{PeerRecord, Content, Connect, VerifyConnect, Disconnect, Message, given_count, messages_on, heard, heard_count}
 use Rattle.gs_enet.specs.Record.{orders, at_moment, connecting, accepting}
 use Rattle.gs_enet.specs.Write.{Item, Answers, Orders, going_out}
 use Rattle.gs_enet.specs.World.{Written, Side, Write, acted, came, IsNear}
-use Rattle.gs_enet.specs.Laws.{AreInOrder}
 use Rattle.gs_enet.proofs.Lists.{Each, each_weaker}
-use Rattle.gs_enet.proofs.Kept.{Kept, Says, IsTrueOrder, OrdersOut, messages_on-append}
-use Rattle.gs_enet.proofs.Acts.{Gives, Both, act_both}
+use Rattle.gs_enet.proofs.Kept.{Kept, Says, IsTrueOrder, OrdersOut}
+use Rattle.gs_enet.proofs.Acts.{Both, act_both}
 use Rattle.gs_enet.proofs.Receipt.{came_both}
-use Rattle.gs_enet.proofs.TwoSides.{whole_prefix, none_waits}
 use Rattle.gs_enet.specs.Sides.{writing_within, written_out, all_told}
 use Rattle.gs_run.proofs.Calm.{IsCalm, IsLow, IsLowContent, calm_is_near}
 
@@ -121,22 +118,3 @@ new_gives own connect_id extra now host_own other host_id host_now = (
     last = tt;
   },
 )
-
--- ---- what follows
-
-pub in_order_from : (g : PeerRecord) (r : PeerRecord) {wg wr : List Written} → Gives g wg r wr → AreInOrder g r
-in_order_from g r k =
-    record {
-      prefix = λ c. (
-        messages_on c r.waiting ++ (k.in_order c).0,
-        (k.in_order c).1 ∙ ap (λ (w : List (List ℕ)). w ++ (k.in_order c).0) (messages_on-append c r.told r.waiting)
-            ∙ append_assoc (told r c) (messages_on c r.waiting) (k.in_order c).0,
-      );
-      whole = λ has c.
-          let done = k.peer_closed (Contains-append_left r.told r.waiting event.PeerClosed has) in
-          let all : messages_on c (heard r) ≡ given_on c g.given = whole_prefix (messages_on c (heard r)) (k.in_order c).0 (given_on c g.given)
-          (k.in_order c).1 (done.0.all c) in
-          sym (messages_on-append c r.told r.waiting ∙ ap (λ (w : List (List ℕ)). told r c ++ w) (none_waits r.told r.waiting k.last has c)
-          ∙ append-nil (told r c)) ∙ all;
-      arrived = λ has c. whole_prefix (messages_on c (heard r)) (k.in_order c).0 (given_on c g.given) (k.in_order c).1 ((k.closed has).all c);
-    }

@@ -2,7 +2,7 @@
 use Rattle.std.proofs.Common.{◌≡◌, ◌+◌, ◌-◌, ℕ, zero, suc, Bool, true, false, not, cond, ◌&&◌, List, [], ◌∷◌, ◌++◌, length, map, Option, Some, None, refl, sym}
 use Rattle.std.proofs.Common.{ap, subst, ◌∙◌, arith}
 use Rattle.std.specs.Prelude.{◌==◌, ◌||◌, nat_lt, slice_get}
-use Rattle.std.proofs.lemmas.Bool.{and_parts, and_from, eqb-true, eqb-false}
+use Rattle.std.proofs.lemmas.Bool.{and_parts, and_from, eqb-true, eqb-false, not_from_false}
 use Rattle.std.proofs.lemmas.List.{append_assoc, append-nil, map-append}
 use Rattle.gs_input.specs.declared.event.Event.{Event}
 use Rattle.gs_input.specs.declared.event.Event.TheVariants as event
@@ -17,24 +17,25 @@ use Rattle.gs_client_core.specs.declared.asker.Owed.{Owed}
 use Rattle.gs_client_core.specs.Owed.{request_channel, owed_message}
 use Rattle.gs_schedule.specs.declared.output.Output.TheVariants as output
 use Rattle.gs_run.specs.CaptureFile.{CaptureFile}
-use Rattle.gs_run.specs.Session.{Part, Session, State, start, video_of, audio_of, session_numbered, replaced, with_session}
+use Rattle.gs_run.specs.Session.{Part, RunSession, State, start, video_of, audio_of, session_numbered, replaced, with_session}
 use Rattle.gs_run.specs.Report.{Acted, quietly, reporting}
 use Rattle.gs_run.specs.Message.{event_channel}
 use Rattle.gs_run.specs.Scene.{Scene, scene_of}
 use Rattle.gs_run.specs.Deed.{SessionDeed, Turn, TakeVideo, TakeAudio, TakeUp, TakeDown, Give, AskIdr, Mark, Deed, Open, Capture, Pass, In}
 use Rattle.gs_run.specs.Deed as deed
-use Rattle.gs_run.specs.Connection.{both_written_out, with_owed, settled}
-use Rattle.gs_run.specs.Hearing.{up_taken, down_taken, timed}
-use Rattle.gs_run.specs.Opening.{client_of, new_part, opened_part, opened, settings_of}
+use Rattle.gs_run.specs.Connection.{both_written_out, with_owed, settled_part}
+use Rattle.gs_run.specs.Hearing.{up_taken, down_taken, timed_part}
+use Rattle.gs_run.specs.Opening.{client_of, new_part, opened_part, opened_session, session_settings}
 use Rattle.gs_run.specs.Streaming.{turned, with_video_if, video_taken, with_audio_if, audio_taken, reset}
-use Rattle.gs_run.specs.Giving.{given, closed}
+use Rattle.gs_run.specs.Giving.{given, closed_part}
 use Rattle.gs_run.specs.Pump.{marked}
-use Rattle.gs_run.specs.Refusal.{Refusal, is_client_open, has_made_most, is_allowed, refused_unless, refusal_in, refusal}
+use Rattle.gs_run.specs.Refusal.{Refusal, is_client_open, has_made_most, is_allowed, refusal_in, refusal}
 use Rattle.gs_run.specs.Done.{done_in, settled_in, after_in, all_timed, after, unless_refused, ran_on, ran}
 use Rattle.gs_run.specs.UserEvents.{event_message, event_in, event_by, and_events, user_events, RunsGiveEvents}
 use Rattle.gs_run.proofs.Uses.{kept_came, kept_close, kept_timed}
 use Rattle.gs_run.proofs.Standing.{kept_out, given_more}
 use Rattle.gs_run.proofs.StateLines.{here_replaced, others_stay}
+use Rattle.gs_run.proofs.Runs.{unrefused}
 
 -- what a client gave on a channel
 abbrev given_of : ℕ → Part → List (List ℕ)
@@ -67,8 +68,8 @@ with_owed_given c apart (first ∷ rest) part =
     by true more = more
     by false more = refl
 
-settled_given : (c now : ℕ) → (c ≡ request_channel → ⊥) → (part : Part) → given_of c (settled now part) ≡ given_of c part
-unfolding settled
+settled_given : (c now : ℕ) → (c ≡ request_channel → ⊥) → (part : Part) → given_of c (settled_part now part) ≡ given_of c part
+unfolding settled_part
 settled_given c now apart part =
     ap (given_on c) (kept_out now (with_owed part.owed part).client).given ∙ with_owed_given c apart part.owed part
 
@@ -88,9 +89,6 @@ has_channel (event.Unknown magic) = refl
 same_given : (c : ℕ) (old new : Part) → new.client.peer.given ≡ old.client.peer.given → given_of c new ≡ given_of c old ++ []
 same_given c old new same = ap (given_on c) same ∙ sym (append-nil (given_of c old))
 
-not_full : (full : Bool) → full ≡ false → not full ≡ true
-not_full full e = ap not e
-
 event_given : (n c : ℕ) (e : Event) (part : Part) → is_client_open part ≡ true → given_of c (given n (event_channel e) (event_message e) part).value
     ≡ given_of c part ++ messages (cond (event_channel e == c && not (is_full part.client.peer (event_channel e))) (e ∷ []) [])
 unfolding given
@@ -107,7 +105,7 @@ event_given n c e part open' = by (event_channel e == c) (is_full part.client.pe
   more : is_full part.client.peer d ≡ false
       → (acted (Send d (event_message e)) part.client).peer.given ≡ part.client.peer.given ++ giving d (event_message e)
   more room = given_more d (event_message e) part.client (has_channel e)
-      (and_from (is_open part.client.peer.state) (not (is_full part.client.peer d)) open' (not_full (is_full part.client.peer d) room))
+      (and_from (is_open part.client.peer.state) (not (is_full part.client.peer d)) open' (not_from_false (is_full part.client.peer d) room))
 
   own : d ≡ c → is_full part.client.peer d ≡ false → given_of c sent.value ≡ given_of c part ++ event_message e ∷ []
   own is room = ap (given_on c) (more room)
@@ -139,9 +137,9 @@ idr_given n c bytes part apart = by (is_full part.client.peer request_channel) w
   by true = same_given c part part refl
   by false = apart_given c request_channel bytes part.client (λ e. apart (sym e)) ∙ sym (append-nil (given_of c part))
 
-deed_given : (scene : Scene) (c : ℕ) (d : SessionDeed) (session : Session) → (c ≡ request_channel → ⊥) → is_allowed scene d session.part ≡ true
+deed_given : (scene : Scene) (c : ℕ) (d : SessionDeed) (session : RunSession) → (c ≡ request_channel → ⊥) → is_allowed scene d session.part ≡ true
     → given_of c (done_in scene d session.part).value ≡ given_of c session.part ++ messages (event_in c d (Some session))
-unfolding turned video_taken audio_taken up_taken down_taken reset closed marked
+unfolding turned video_taken audio_taken up_taken down_taken reset closed_part marked
 deed_given scene c Turn session apart test = same_given c session.part (turned scene session.part).value refl
 deed_given scene c (TakeVideo k) session apart test =
     let o = slice_get (video_of scene.ticks session.part) (k - 1) in
@@ -160,11 +158,11 @@ deed_given scene c (Give e) session apart test =
     event_given scene.session c e session.part (and_parts (is_client_open session.part)
     (is_full session.part.client.peer (event_channel e) || not (has_made_most (event_channel e) session.part)) test).0
 deed_given scene c AskIdr session apart test = idr_given scene.session c (bytes_of message.IdrRequest) session.part apart
-deed_given scene c deed.Close session apart test = same_given c session.part (closed session.part).value (kept_close session.part.client.peer).given
+deed_given scene c deed.Close session apart test = same_given c session.part (closed_part session.part).value (kept_close session.part.client.peer).given
 deed_given scene c deed.Reset session apart test = same_given c session.part (reset scene.session session.part).value refl
 deed_given scene c Mark session apart test = same_given c session.part (marked scene session.part) refl
 
-settled_in_given : (scene : Scene) (c : ℕ) (d : SessionDeed) (session : Session) → (c ≡ request_channel → ⊥)
+settled_in_given : (scene : Scene) (c : ℕ) (d : SessionDeed) (session : RunSession) → (c ≡ request_channel → ⊥)
     → is_allowed scene d session.part ≡ true
     → given_of c (settled_in scene d session.part).value ≡ given_of c session.part ++ messages (event_in c d (Some session))
 settled_in_given scene c d session apart test =
@@ -172,21 +170,17 @@ settled_in_given scene c d session apart test =
 
 -- ---- sessions by number
 
-abbrev given_at : ℕ → Option Session → List (List ℕ)
+abbrev given_at : ℕ → Option RunSession → List (List ℕ)
 given_at c None = []
 given_at c (Some session) = given_of c session.part
 
-allowed : (b : Bool) → refused_unless b ≡ None → b ≡ true
-allowed true e = refl
-allowed false e = absurd cc
-
-in_given : (scene : Scene) (c : ℕ) (d : SessionDeed) (k n : ℕ) (o : Option Session) (state : State) → (c ≡ request_channel → ⊥)
+in_given : (scene : Scene) (c : ℕ) (d : SessionDeed) (k n : ℕ) (o : Option RunSession) (state : State) → (c ≡ request_channel → ⊥)
     → scene.session ≡ suc k → slice_get state.sessions k ≡ o → refusal_in scene d o ≡ None
     → given_at c (session_numbered (after_in scene d o state).value n)
     ≡ given_at c (session_numbered state n) ++ messages (cond (suc k == n) (event_in c d o) [])
 in_given scene c d k n None state apart is there test = absurd cc
 in_given scene c d k n (Some session) state apart is there test = by (suc k == n) refl where
-  new : Session
+  new : RunSession
   new = record session { part = (settled_in scene d session.part).value }
 
   place : scene.session - 1 ≡ k
@@ -197,8 +191,8 @@ in_given scene c d k n (Some session) state apart is there test = by (suc k == n
   here =
       ap (λ (x : ℕ). given_at c (slice_get (replaced state.sessions x new) k)) place
       ∙ ap (given_at c) (here_replaced state.sessions k session new there)
-      ∙ settled_in_given scene c d session apart (allowed (is_allowed scene d session.part) test)
-      ∙ ap (λ (x : Option Session). given_at c x ++ messages (event_in c d (Some session))) (sym there)
+      ∙ settled_in_given scene c d session apart (unrefused (is_allowed scene d session.part) test)
+      ∙ ap (λ (x : Option RunSession). given_at c x ++ messages (event_in c d (Some session))) (sym there)
 
   other : (n : ℕ) → (suc k ≡ n → ⊥) → given_at c (session_numbered (with_session scene.session new state) n) ≡ given_at c (session_numbered state n) ++ []
   other zero differs = refl
@@ -215,15 +209,15 @@ in_given scene c d k n (Some session) state apart is there test = by (suc k == n
 
 -- ---- time
 
-timed_given : (n now c : ℕ) (part : Part) → given_of c (timed n now part).value ≡ given_of c part
-unfolding timed
+timed_given : (n now c : ℕ) (part : Part) → given_of c (timed_part n now part).value ≡ given_of c part
+unfolding timed_part
 timed_given n now c part = ap (given_on c) (kept_timed now part.client.peer).given
 
-all_timed_given : (m now c j : ℕ) (sessions : List Session) → (c ≡ request_channel → ⊥)
+all_timed_given : (m now c j : ℕ) (sessions : List RunSession) → (c ≡ request_channel → ⊥)
     → given_at c (slice_get (all_timed m now sessions).value j) ≡ given_at c (slice_get sessions j)
 all_timed_given m now c j [] apart = refl
 all_timed_given m now c zero (session ∷ sessions) apart =
-    settled_given c now apart (timed m now session.part).value ∙ timed_given m now c session.part
+    settled_given c now apart (timed_part m now session.part).value ∙ timed_given m now c session.part
 all_timed_given m now c (suc j) (session ∷ sessions) apart = all_timed_given (m + 1) now c j sessions apart
 
 -- ---- a session that is opened
@@ -234,13 +228,13 @@ opened_given c session now settings apart =
     let new = new_part (session - 1) now settings in
     let written = both_written_out now new in
     let down = (down_taken session now 1 written).value in
-    let verified = settled now down in
+    let verified = settled_part now down in
     settled_given c now apart (up_taken session now 2 verified).value
     ∙ settled_given c now apart down
     ∙ ap (given_on c) (kept_came (slice_get written.host.wrote 0) now written.client).given
     ∙ ap (given_on c) (kept_out now new.client).given
 
-pushed_given : (c j : ℕ) (sessions : List Session) (new : Session) → given_of c new.part ≡ []
+pushed_given : (c j : ℕ) (sessions : List RunSession) (new : RunSession) → given_of c new.part ≡ []
     → given_at c (slice_get (sessions ++ new ∷ []) j) ≡ given_at c (slice_get sessions j)
 pushed_given c zero [] new none = none
 pushed_given c (suc j) [] new none = refl
@@ -251,12 +245,12 @@ pushed_given c (suc j) (session ∷ sessions) new none = pushed_given c j sessio
 
 after_given : (file : CaptureFile) (n c : ℕ) (d : Deed) (state : State) → (c ≡ request_channel → ⊥) → refusal file d state ≡ None
     → given_at c (session_numbered (after file d state).value n) ≡ given_at c (session_numbered state n) ++ messages (event_by n c d state)
-unfolding after opened refusal
+unfolding after opened_session refusal
 after_given file zero c (Open packet percentage minimum window) state apart test = refl
 after_given file (suc j) c (Open packet percentage minimum window) state apart test =
     let number = length state.sessions + 1 in
     pushed_given c j state.sessions _
-    (opened_given c number state.moment (client_of (settings_of file number packet percentage minimum) window) apart)
+    (opened_given c number state.moment (client_of (session_settings file number packet percentage minimum) window) apart)
     ∙ sym (append-nil (given_at c (slice_get state.sessions j)))
 after_given file zero c Capture state apart test = refl
 after_given file (suc j) c Capture state apart test = sym (append-nil (given_at c (slice_get state.sessions j)))

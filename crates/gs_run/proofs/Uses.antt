@@ -9,8 +9,8 @@ use Rattle.gs_enet.specs.declared.answer.Answer.{Answer}
 use Rattle.gs_enet.specs.Record.{PeerRecord, Unacknowledged, Content, Connect, VerifyConnect, Disconnect, Message, channels, control, heard, messages_on}
 use Rattle.gs_enet.specs.Record.{is_shut, at_moment}
 use Rattle.gs_enet.specs.Receive.{expected, is_next, is_behind, takes_messages, taken_if, message_if, verified, verify_if, disconnect_if, connected, leave_if}
-use Rattle.gs_enet.specs.Receive.{acknowledged, is_named, acknowledged_if, answer_to, received, all_received}
-use Rattle.gs_enet.specs.Steps.{is_lost, close_if, closed, timed_if, timed}
+use Rattle.gs_enet.specs.Receive.{acknowledged, is_named, acknowledged_if, owed_answer, command_received, all_received}
+use Rattle.gs_enet.specs.Steps.{had_last_wait, close_if, closed, timed_if, timed}
 use Rattle.gs_enet.specs.Write.{Item, Answers, Orders, item_command, order_command, wrote_next}
 use Rattle.gs_enet.specs.World.{Side, Written, came}
 use Rattle.gs_enet.proofs.Lists.{each_weaker}
@@ -80,19 +80,20 @@ kept_taken : (takes : Bool) (c n : ℕ) (bytes : List ℕ) (a : Answer) (r : Pee
 kept_taken true c n bytes a r = kept_message (is_next n (expected r c)) (is_behind n (expected r c)) c (expected r c) bytes a r
 kept_taken false c n bytes a r = same r
 
-kept_order : (sent : ℕ) (content : Content) (channel number : ℕ) (by r : PeerRecord) → Keeps r (received sent (order_command content channel number by) r)
-unfolding received
+kept_order : (sent : ℕ) (content : Content) (channel number : ℕ) (by r : PeerRecord)
+    → Keeps r (command_received sent (order_command content channel number by) r)
+unfolding command_received
 kept_order sent Connect channel number by r = same r
 kept_order sent VerifyConnect channel number by r =
-    kept_verify (is_some r.extra && (by.connect_id == r.connect_id)) by.own (answer_to sent control (number % 65536)) r
+    kept_verify (is_some r.extra && (by.connect_id == r.connect_id)) by.own (owed_answer sent control (number % 65536)) r
 kept_order sent Disconnect channel number by r =
-    kept_disconnect r.disconnected (record (answer_to sent control (number % 65536)) { to_disconnect = true }) r
+    kept_disconnect r.disconnected (record (owed_answer sent control (number % 65536)) { to_disconnect = true }) r
 kept_order sent (Message bytes) channel number by r =
     kept_taken (nat_lt channel channels && takes_messages r.state) channel (number % 65536) bytes
-    (answer_to sent channel (number % 65536)) r
+    (owed_answer sent channel (number % 65536)) r
 
-kept_item : (sent : ℕ) (by r : PeerRecord) (x : Item) → Keeps r (received sent (item_command by x) r)
-unfolding received
+kept_item : (sent : ℕ) (by r : PeerRecord) (x : Item) → Keeps r (command_received sent (item_command by x) r)
+unfolding command_received
 kept_item sent by r (Answers a) = kept_acknowledge (find (is_named a.channel a.number) r.unacknowledged) a.channel a.number r
 kept_item sent by r (Orders o) = kept_order sent o.content o.channel o.number by r
 
@@ -100,7 +101,7 @@ kept_all : (sent : ℕ) (by : PeerRecord) (xs : List Item) (r : PeerRecord) → 
 kept_all sent by [] r = same r
 kept_all sent by (x ∷ xs) r =
     let first = kept_item sent by r x in
-    let rest = kept_all sent by xs (received sent (item_command by x) r) in
+    let rest = kept_all sent by xs (command_received sent (item_command by x) r) in
     record { given = rest.given ∙ first.given; told = rest.told ∙ first.told }
 
 -- a datagram that comes
@@ -168,7 +169,7 @@ kept_timed_if false None r = record { given = refl; told = refl }
 pub kept_timed : (now : ℕ) (r : PeerRecord) → Keeps r (timed now r)
 unfolding timed
 kept_timed now r =
-    let k = kept_timed_if (is_shut r.state) (find (is_lost (at_moment now r).now) r.unacknowledged) (at_moment now r) in
+    let k = kept_timed_if (is_shut r.state) (find (had_last_wait (at_moment now r).now) r.unacknowledged) (at_moment now r) in
     record { given = k.given; told = k.told }
 
 calm_timed_if : (over : Bool) (lost : Option Unacknowledged) (r : PeerRecord) → IsCalm r → IsCalm (timed_if over lost r)
@@ -180,5 +181,5 @@ calm_timed_if false None r calm = record { heard_few = calm.heard_few; given_few
 pub calm_timed : (now : ℕ) (r : PeerRecord) → IsCalm r → IsCalm (timed now r)
 unfolding timed
 calm_timed now r calm =
-    calm_timed_if (is_shut r.state) (find (is_lost (at_moment now r).now) r.unacknowledged) (at_moment now r)
+    calm_timed_if (is_shut r.state) (find (had_last_wait (at_moment now r).now) r.unacknowledged) (at_moment now r)
     (record { heard_few = calm.heard_few; given_few = calm.given_few })

@@ -1,7 +1,7 @@
 -- Whole runs, from the lines of a schedule to the text.
 use Rattle.std.proofs.Common.{ℕ, ◌≡◌, List, [], ◌∷◌, ◌++◌, codes, refl, pos, Some, inr, arith}
 use Rattle.std.specs.Fmt.{digits}
-use Rattle.gs_tape.specs.Reading.{read, text_at, head_at, unit_at, deltas_at, audio_at, tick_at, ticks_at}
+use Rattle.gs_tape.specs.Reading.{read_tape, text_at, head_at, unit_at, deltas_at, audio_at, tick_at, ticks_at}
 use Rattle.gs_frames.specs.Image.{frame_image, frame_of}
 use Rattle.gs_frames.specs.Plan.{fec_plan}
 use Rattle.gs_frames.specs.Datagrams.{frame_shards, frame_datagrams}
@@ -14,7 +14,7 @@ use Rattle.gs_frames.specs.Asks.{asks, asks_of}
 use Rattle.gs_stream.specs.Video.{video_stream}
 use Rattle.gs_stream.specs.Audio.{audio_stream, audio_units}
 use Rattle.gs_input.specs.declared.event.Event.TheVariants.{KeyDown}
-use Rattle.gs_enet.specs.Receive.{received as command_received}
+use Rattle.gs_enet.specs.Receive.{command_received}
 use Rattle.gs_enet.specs.Steps.{with_message, closed as peer_closed}
 use Rattle.gs_enet.specs.Write.{next_items, wrote_next}
 use Rattle.gs_schedule.specs.declared.step.Step.{Step}
@@ -26,12 +26,12 @@ use Rattle.gs_run.specs.Session.{start}
 use Rattle.gs_command.specs.declared.command.Detail.TheVariants.{Bytes}
 use Rattle.gs_run.specs.Deed.{Deed, Open, Capture, In, Turn, TakeVideo, TakeUp, TakeDown, Give, Close, Mark}
 use Rattle.gs_run.specs.Message.{act_of}
-use Rattle.gs_run.specs.Connection.{settled}
+use Rattle.gs_run.specs.Connection.{settled_part}
 use Rattle.gs_enet.specs.Sides.{written_out}
 use Rattle.gs_run.specs.Hearing.{up_taken, down_taken}
-use Rattle.gs_run.specs.Opening.{opened_part, opened}
+use Rattle.gs_run.specs.Opening.{opened_part, opened_session}
 use Rattle.gs_run.specs.Streaming.{turned, video_taken}
-use Rattle.gs_run.specs.Giving.{given, closed}
+use Rattle.gs_run.specs.Giving.{given, closed_part}
 use Rattle.gs_run.specs.Pump.{marked}
 use Rattle.gs_run.specs.Refusal.{refusal}
 use Rattle.gs_run.specs.Done.{after, ran}
@@ -53,8 +53,8 @@ run_of file deeds = behind (ran file deeds start).reports (finished file.fault (
 
 smallest_text : run_text Bytes (run_of (file_of small) smallest_deeds)
     ≡ codes "sent 1 1 2 1 0\nhand 1 1 2 3\nABC\ntotal 1 1 1 0 0 0\nok\n"
-unfolding ran refusal after opened opened_part turned video_taken up_taken down_taken settled written_out total_of played
-    read text_at head_at unit_at deltas_at audio_at tick_at ticks_at
+unfolding ran refusal after opened_session opened_part turned video_taken up_taken down_taken settled_part written_out total_of played
+    read_tape text_at head_at unit_at deltas_at audio_at tick_at ticks_at
     frame_datagrams frame_shards fec_plan frame_image frame_of received counting complete settled_frame handed handed_through asks asks_of video_stream
     command_received with_message next_items wrote_next act_of digits
 smallest_text = refl
@@ -81,8 +81,8 @@ delivers = record { spells = ((omega arith, (omega arith, tt)), refl); short = o
 
 smallest_run : IsRun (file_of small) (lines_of (codes "session 1024 0 0\ncap\nsend 1\nvideo 1 1"))
     (run_of (file_of small) smallest_deeds)
-unfolding lines_of ran refusal after opened opened_part turned video_taken up_taken down_taken settled written_out total_of played
-    read text_at head_at unit_at deltas_at audio_at tick_at ticks_at
+unfolding lines_of ran refusal after opened_session opened_part turned video_taken up_taken down_taken settled_part written_out total_of played
+    read_tape text_at head_at unit_at deltas_at audio_at tick_at ticks_at
     frame_datagrams frame_shards fec_plan frame_image frame_of received counting complete settled_frame handed handed_through asks asks_of video_stream
     command_received with_message next_items wrote_next act_of
 smallest_run = (
@@ -136,15 +136,15 @@ pump_deeds = In 1 (TakeUp 3) ∷ In 1 (TakeDown 2) ∷ In 1 (TakeUp 4) ∷ In 1 
 
 close_text : run_text Bytes (run_of (file_of small) (closing_deeds ++ pump_deeds))
     ≡ codes "input 1 2 keydown 65 0\nclosed 1\ntotal 1 0 0 0 1 0\nok\n"
-unfolding ran refusal after opened opened_part given closed marked up_taken down_taken settled written_out total_of played
-    read text_at head_at unit_at deltas_at audio_at tick_at ticks_at
+unfolding ran refusal after opened_session opened_part given closed_part marked up_taken down_taken settled_part written_out total_of played
+    read_tape text_at head_at unit_at deltas_at audio_at tick_at ticks_at
     received counting complete settled_frame handed handed_through asks asks_of video_stream audio_stream audio_units
     command_received with_message peer_closed next_items wrote_next act_of digits
 close_text = refl
 
 close_run : IsRunOfSteps (file_of small) close_steps (run_of (file_of small) (closing_deeds ++ pump_deeds))
-unfolding ran refusal after opened opened_part given closed marked pump_deed up_taken down_taken settled written_out total_of played
-    read text_at head_at unit_at deltas_at audio_at tick_at ticks_at
+unfolding ran refusal after opened_session opened_part given closed_part marked pump_deed up_taken down_taken settled_part written_out total_of played
+    read_tape text_at head_at unit_at deltas_at audio_at tick_at ticks_at
     received counting complete settled_frame handed handed_through asks asks_of video_stream audio_stream audio_units
     command_received with_message peer_closed next_items wrote_next act_of
 close_run = (

@@ -1,7 +1,7 @@
 -- What a run is given of a capture file.
 use Rattle.std.specs.Prelude.{ℕ, List, Option, Some, None, Result, Ok, Err, length}
 use Rattle.gs_tape.specs.Tick.{Tick}
-use Rattle.gs_tape.specs.Reading.{Fault, Head, head_at, ticks_of, first_fault, audio_length, audio_duration}
+use Rattle.gs_tape.specs.Reading.{Fault, CaptureHead, head_at, ticks_of, first_fault, audio_length, audio_duration}
 use Rattle.gs_tape.specs.Generated.{generated}
 pub use Rattle.gs_tape.specs.Limits.{generated_audio, generated_duration}
 
@@ -14,7 +14,7 @@ pub record CaptureFile : Type 0 where
   pub ticks : List Tick
   pub fault : Option Fault
 
-abbrev pub fault_of_head : Result (Head × List ℕ) Fault → Option Fault
+abbrev pub fault_of_head : Result (CaptureHead × List ℕ) Fault → Option Fault
 fault_of_head (Err fault) = Some fault
 fault_of_head (Ok head) = None
 

@@ -26,5 +26,5 @@ with_owed (first ∷ rest) part =
     else record part { owed = first ∷ rest }
 
 -- behind each deed what is owed is given, as far as it may be, and each side writes out
-unfoldable pub settled : ℕ → Part → Part
-settled now part = both_written_out now (with_owed part.owed part)
+unfoldable pub settled_part : ℕ → Part → Part
+settled_part now part = both_written_out now (with_owed part.owed part)

@@ -4,7 +4,7 @@ use Rattle.std.specs.List.{filter}
 use Rattle.gs_enet.specs.Record.{PeerRecord, Content, Message, Unacknowledged}
 use Rattle.gs_enet.specs.Write.{Item, Answers, Orders, is_due}
 use Rattle.gs_enet.specs.World.{Written}
-use Rattle.gs_run.specs.Session.{Marks, Part, video_of, audio_of}
+use Rattle.gs_run.specs.Session.{PartMarks, Part, video_of, audio_of}
 use Rattle.gs_run.specs.Scene.{Scene}
 use Rattle.gs_run.specs.Pump.{Pumping}
 
@@ -27,20 +27,20 @@ abbrev pub is_message_content : Content → Bool
 is_message_content (Message bytes) = true
 is_message_content _ = false
 
-abbrev pub is_message : Unacknowledged → Bool
-is_message u = is_message_content u.order.content
+abbrev pub carries_message : Unacknowledged → Bool
+carries_message u = is_message_content u.order.content
 
 -- What a side may still write: an answer that it owes makes one delivery, a command that is due two, since it is
 -- answered. The last message that is acknowledged may let its side disconnect, which is one command more.
 abbrev pub deliveries_by : PeerRecord → ℕ
 deliveries_by peer =
     length peer.pending + 2 * length (filter is_due peer.unacknowledged)
-    + 2 * length (filter is_message peer.unacknowledged)
+    + 2 * length (filter carries_message peer.unacknowledged)
 
 -- ---- a session
 
 -- what both sides wrote and may write; a request that is owed becomes a message that is due
-abbrev pub control_deliveries : Marks → Part → ℕ
+abbrev pub control_deliveries : PartMarks → Part → ℕ
 control_deliveries at part =
     all_deliveries (drop at.up part.client.wrote) + all_deliveries (drop at.down part.host.wrote)
     + deliveries_by part.client.peer + deliveries_by part.host.peer + 4 * length part.owed

@@ -1,16 +1,16 @@
 -- What a deed does: the state behind it and what is reported, or why it is refused.
 use Rattle.std.specs.Prelude.{ℕ, ◌+◌, List, [], ◌∷◌, ◌++◌, Option, Some, None, Result, Ok, Err}
 use Rattle.gs_run.specs.CaptureFile.{CaptureFile}
-use Rattle.gs_run.specs.Session.{Part, Session, State, session_numbered, with_session}
+use Rattle.gs_run.specs.Session.{Part, RunSession, State, session_numbered, with_session}
 use Rattle.gs_run.specs.Report.{Report, Acted, quietly, ◌>>=◌}
 use Rattle.gs_run.specs.Scene.{Scene, scene_of}
 use Rattle.gs_run.specs.Deed.{SessionDeed, Turn, TakeVideo, TakeAudio, TakeUp, TakeDown, Give, AskIdr, Close, Reset}
 use Rattle.gs_run.specs.Deed.{Mark, Deed, Open, Capture, Pass, In}
-use Rattle.gs_run.specs.Connection.{settled}
-use Rattle.gs_run.specs.Hearing.{up_taken, down_taken, timed}
-use Rattle.gs_run.specs.Opening.{opened}
+use Rattle.gs_run.specs.Connection.{settled_part}
+use Rattle.gs_run.specs.Hearing.{up_taken, down_taken, timed_part}
+use Rattle.gs_run.specs.Opening.{opened_session}
 use Rattle.gs_run.specs.Streaming.{turned, video_taken, audio_taken, reset}
-use Rattle.gs_run.specs.Giving.{event_given, idr_asked, closed}
+use Rattle.gs_run.specs.Giving.{event_given, idr_asked, closed_part}
 use Rattle.gs_run.specs.Pump.{marked}
 use Rattle.gs_run.specs.Refusal.{Refusal, refusal}
 
@@ -24,7 +24,7 @@ done_in scene (TakeUp k) part = up_taken scene.session scene.moment k part
 done_in scene (TakeDown k) part = down_taken scene.session scene.moment k part
 done_in scene (Give event) part = event_given scene.session event part
 done_in scene AskIdr part = idr_asked scene.session part
-done_in scene Close part = closed part
+done_in scene Close part = closed_part part
 done_in scene Reset part = reset scene.session part
 done_in scene Mark part = quietly (marked scene part)
 
@@ -32,9 +32,9 @@ done_in scene Mark part = quietly (marked scene part)
 abbrev pub settled_in : Scene → SessionDeed → Part → Acted Part
 settled_in scene deed part = do
   did ← done_in scene deed part
-  quietly (settled scene.moment did)
+  quietly (settled_part scene.moment did)
 
-abbrev pub after_in : Scene → SessionDeed → Option Session → State → Acted State
+abbrev pub after_in : Scene → SessionDeed → Option RunSession → State → Acted State
 after_in scene deed None state = quietly state
 after_in scene deed (Some session) state = do
   part ← settled_in scene deed session.part
@@ -43,12 +43,12 @@ after_in scene deed (Some session) state = do
 -- ---- in all
 
 -- The timers of the sessions from that number on run. What each side then has to write out is reported nowhere.
-abbrev pub all_timed : ℕ → ℕ → List Session → Acted (List Session)
+abbrev pub all_timed : ℕ → ℕ → List RunSession → Acted (List RunSession)
 all_timed number now [] = quietly []
 all_timed number now (session ∷ sessions) = do
-  part ← timed number now session.part
+  part ← timed_part number now session.part
   others ← all_timed (number + 1) now sessions
-  quietly (record session { part = settled now part } ∷ others)
+  quietly (record session { part = settled_part now part } ∷ others)
 
 abbrev pub passed : ℕ → State → Acted State
 passed now state = do
@@ -57,7 +57,7 @@ passed now state = do
 
 unfoldable pub after : CaptureFile → Deed → State → Acted State
 after file (Open packet percentage minimum window) state =
-    quietly (opened file packet percentage minimum window state)
+    quietly (opened_session file packet percentage minimum window state)
 after file Capture state = quietly (record state { captured = state.captured + 1 })
 after file (Pass by) state = passed (state.moment + by) state
 after file (In number deed) state = after_in (scene_of file number state) deed (session_numbered state number) state

@@ -24,5 +24,5 @@ event_given session event part = given session (event_channel event) (bytes_of (
 abbrev pub idr_asked : ℕ → Part → Acted Part
 idr_asked session part = given session request_channel (bytes_of message.IdrRequest) part
 
-unfoldable pub closed : Part → Acted Part
-closed part = quietly (record part { client = acted Close part.client })
+unfoldable pub closed_part : Part → Acted Part
+closed_part part = quietly (record part { client = acted Close part.client })

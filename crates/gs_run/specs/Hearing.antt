@@ -85,7 +85,7 @@ down_taken session now k part =
     client_hears session (record part { client = came (slice_get part.host.wrote (k - 1)) now part.client })
 
 -- the timers of both sides run, the client's first
-unfoldable pub timed : ℕ → ℕ → Part → Acted Part
-timed session now part = do
+unfoldable pub timed_part : ℕ → ℕ → Part → Acted Part
+timed_part session now part = do
   client ← client_hears session (record part { client = acted (Time now) part.client })
   host_hears session (record client { host = acted (Time now) client.host })

@@ -7,7 +7,7 @@ use Rattle.gs_schedule.specs.declared.step.Step.TheVariants as step
 use Rattle.gs_schedule.specs.Step.{Spells}
 use Rattle.gs_schedule.specs.Lines.{most_line}
 use Rattle.gs_run.specs.CaptureFile.{CaptureFile}
-use Rattle.gs_run.specs.Session.{Session, State, session_numbered}
+use Rattle.gs_run.specs.Session.{RunSession, State, session_numbered}
 use Rattle.gs_run.specs.Report.{Acted}
 use Rattle.gs_run.specs.Scene.{Scene, scene_of}
 use Rattle.gs_run.specs.Deed.{SessionDeed, Turn, TakeVideo, TakeAudio, TakeUp, TakeDown, Give, AskIdr, Close, Reset}
@@ -32,11 +32,11 @@ HasStep number line None = (step : Step) → IsLineOf number line step → ⊥
 -- ---- a pump
 
 -- it begins at the marks
-abbrev pub pumping_from : Option Session → Pumping
+abbrev pub pumping_from : Option RunSession → Pumping
 pumping_from None = record { at = record { video = 0; audio = 0; up = 0; down = 0 }; down_is_next = false }
 pumping_from (Some session) = record { at = session.part.marks; down_is_next = false }
 
-abbrev pub pump_deed_in : Scene → ℕ → Pumping → Option Session → SessionDeed
+abbrev pub pump_deed_in : Scene → ℕ → Pumping → Option RunSession → SessionDeed
 pump_deed_in scene every pumping None = Mark
 pump_deed_in scene every pumping (Some session) = next_pumped every pumping (ends_of scene session.part)
 

@@ -4,7 +4,7 @@ use Rattle.gs_input.specs.declared.event.Event.{Event}
 use Rattle.gs_input.specs.declared.event.Event.TheVariants as event
 pub use Rattle.gs_host_core.specs.declared.act.Act.{Act}
 pub use Rattle.gs_host_core.specs.declared.act.Act.TheVariants.{Invalidate, AskIdr, Input, Nothing}
-pub use Rattle.gs_host_core.specs.ActOf.{act_by, event_by}
+pub use Rattle.gs_host_core.specs.ActOf.{act_by, acted_event}
 unfoldable pub use Rattle.gs_host_core.specs.ActOf.{act_of}
 
 -- the channel of an event: keys on the one, all else on the other

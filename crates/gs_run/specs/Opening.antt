@@ -8,7 +8,7 @@ use Rattle.gs_enet.specs.Sides.{new_side}
 use Rattle.gs_run.specs.declared.limits.TheConstants.{MOST_SESSIONS, SESSION_FPS}
 use Rattle.gs_run.specs.CaptureFile.{CaptureFile}
 use Rattle.gs_run.specs.Session.{Part, State}
-use Rattle.gs_run.specs.Connection.{both_written_out, settled}
+use Rattle.gs_run.specs.Connection.{both_written_out, settled_part}
 use Rattle.gs_run.specs.Hearing.{up_taken, down_taken}
 
 -- how many sessions a run may have
@@ -16,15 +16,15 @@ abbrev pub most_sessions : ℕ
 most_sessions = MOST_SESSIONS
 
 -- the numbers of a session are within their limits
-abbrev pub are_settings : ℕ → ℕ → ℕ → ℕ → Bool
-are_settings packet percentage minimum window =
+abbrev pub numbers_are_allowed : ℕ → ℕ → ℕ → ℕ → Bool
+numbers_are_allowed packet percentage minimum window =
     nat_le least_packet packet && nat_le packet most_packet
     && nat_le percentage most_percentage && nat_le minimum most_minimum
     && nat_le least_window window && nat_le window most_window
 
 -- a stream with the frames a second of every session, and the audio of the capture file
-abbrev pub settings_of : CaptureFile → (ssrc packet percentage minimum : ℕ) → StreamSettings
-settings_of file ssrc packet percentage minimum = record {
+abbrev pub session_settings : CaptureFile → (ssrc packet percentage minimum : ℕ) → StreamSettings
+session_settings file ssrc packet percentage minimum = record {
   packet = packet;
   percentage = percentage;
   minimum = minimum;
@@ -56,14 +56,14 @@ new_part host_id now settings = record {
 unfoldable pub opened_part : ℕ → ℕ → ClientSettings → Part
 opened_part session now settings =
     let written = both_written_out now (new_part (session - 1) now settings) in
-    let verified = settled now (down_taken session now 1 written).value in
-    settled now (up_taken session now 2 verified).value
+    let verified = settled_part now (down_taken session now 1 written).value in
+    settled_part now (up_taken session now 2 verified).value
 
 -- the next session is opened
-unfoldable pub opened : CaptureFile → (packet percentage minimum window : ℕ) → State → State
-opened file packet percentage minimum window state =
+unfoldable pub opened_session : CaptureFile → (packet percentage minimum window : ℕ) → State → State
+opened_session file packet percentage minimum window state =
     let number = length state.sessions + 1 in
-    let settings = client_of (settings_of file number packet percentage minimum) window in
+    let settings = client_of (session_settings file number packet percentage minimum) window in
     record state {
       sessions = state.sessions
           ++ record { part = opened_part number state.moment settings; earlier = [] } ∷ [];

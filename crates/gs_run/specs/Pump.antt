@@ -3,12 +3,12 @@ use Rattle.std.specs.Prelude.{ℕ, ◌+◌, ◌-◌, ◌%◌, Bool, true, false,
 use Rattle.std.specs.Prelude.{unwrap_or, nat_lt, ◌==◌, if◌then◌else◌}
 use Rattle.std.specs.List.{range_with_len}
 use Rattle.std.specs.Option.{option_map}
-use Rattle.gs_run.specs.Session.{Marks, Part, video_of, audio_of}
+use Rattle.gs_run.specs.Session.{PartMarks, Part, video_of, audio_of}
 use Rattle.gs_run.specs.Scene.{Scene}
 use Rattle.gs_run.specs.Deed.{SessionDeed, TakeVideo, TakeAudio, TakeUp, TakeDown, Mark}
 
 -- how many datagrams there are of each kind
-abbrev pub ends_of : Scene → Part → Marks
+abbrev pub ends_of : Scene → Part → PartMarks
 ends_of scene part = record {
   video = length (video_of scene.ticks part);
   audio = length (audio_of scene.ticks part);
@@ -22,7 +22,7 @@ marked scene part = record part { marks = ends_of scene part }
 
 -- up to which datagram of each kind a pump is, and whether it is the turn of one of the host's control datagrams
 pub record Pumping : Type 0 where
-  pub at : Marks
+  pub at : PartMarks
   pub down_is_next : Bool
 
 -- a number that isn't a multiple of `every`, where that isn't 0
@@ -41,7 +41,7 @@ or_else None second = second
 or_else (Some first) second = Some first
 
 -- one of the client's and one of the host's in turn; one that has none is passed over
-abbrev pub next_control : Pumping → Marks → Option SessionDeed
+abbrev pub next_control : Pumping → PartMarks → Option SessionDeed
 next_control pumping ends =
     let up = option_map TakeUp (next_above pumping.at.up ends.up) in
     let down = option_map TakeDown (next_above pumping.at.down ends.down) in
@@ -49,7 +49,7 @@ next_control pumping ends =
 
 -- The next delivery: a video datagram, else an audio datagram, else one of the control datagrams. Once there is none
 -- the marks move.
-abbrev pub next_pumped : ℕ → Pumping → Marks → SessionDeed
+abbrev pub next_pumped : ℕ → Pumping → PartMarks → SessionDeed
 next_pumped every pumping ends =
     unwrap_or
     (or_else (option_map TakeVideo (next_kept every pumping.at.video ends.video))

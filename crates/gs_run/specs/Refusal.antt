@@ -8,13 +8,13 @@ use Rattle.gs_enet.specs.Steps.{is_open, is_full}
 use Rattle.gs_store.specs.Named.{is_nameable}
 use Rattle.gs_run.specs.declared.limits.TheConstants.{MOST_MADE, MOST_MOMENT}
 use Rattle.gs_run.specs.CaptureFile.{CaptureFile}
-use Rattle.gs_run.specs.Session.{Part, Session, State, video_of, audio_of, made_on, session_numbered}
+use Rattle.gs_run.specs.Session.{Part, RunSession, State, video_of, audio_of, made_on, session_numbered}
 use Rattle.gs_client_core.specs.Owed.{request_channel}
 use Rattle.gs_run.specs.Scene.{Scene, scene_of}
 use Rattle.gs_run.specs.Deed.{SessionDeed, Turn, TakeVideo, TakeAudio, TakeUp, TakeDown, Give, AskIdr, Close, Reset}
 use Rattle.gs_run.specs.Deed.{Mark, Deed, Open, Capture, Pass, In}
 use Rattle.gs_run.specs.Message.{event_channel}
-use Rattle.gs_run.specs.Opening.{most_sessions, are_settings}
+use Rattle.gs_run.specs.Opening.{most_sessions, numbers_are_allowed}
 
 -- The line can't be run, or the capture file has this fault where its next tick is to be read.
 pub data Refusal : Type 0 where
@@ -72,7 +72,7 @@ refused_unless true = None
 refused_unless false = Some BadLine
 
 -- in a session that isn't open nothing may be done
-abbrev pub refusal_in : Scene → SessionDeed → Option Session → Option Refusal
+abbrev pub refusal_in : Scene → SessionDeed → Option RunSession → Option Refusal
 refusal_in scene deed None = Some BadLine
 refusal_in scene deed (Some session) = refused_unless (is_allowed scene deed session.part)
 
@@ -85,7 +85,8 @@ refusal_at_end (Some fault) = BadFile fault
 
 unfoldable pub refusal : CaptureFile → Deed → State → Option Refusal
 refusal file (Open packet percentage minimum window) state =
-    refused_unless (nat_lt (length state.sessions) most_sessions && are_settings packet percentage minimum window)
+    refused_unless
+    (nat_lt (length state.sessions) most_sessions && numbers_are_allowed packet percentage minimum window)
 refusal file Capture state =
     if nat_lt state.captured (length file.ticks) then None else Some (refusal_at_end file.fault)
 refusal file (Pass by) state = refused_unless (nat_le (state.moment + by) most_moment)

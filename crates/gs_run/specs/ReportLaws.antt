@@ -4,7 +4,7 @@ use Rattle.std.specs.List.{filter, flat_map}
 use Rattle.gs_schedule.specs.declared.output.Output.{Output}
 use Rattle.gs_schedule.specs.declared.output.Output.TheVariants as output
 use Rattle.gs_run.specs.CaptureFile.{CaptureFile}
-use Rattle.gs_run.specs.Session.{Part, Session, start, session_numbered, handed_of, asked_of, played_of}
+use Rattle.gs_run.specs.Session.{Part, RunSession, start, session_numbered, handed_of, asked_of, played_of}
 use Rattle.gs_run.specs.Report.{Report, plain, ask_report, hand_report, play_report}
 use Rattle.gs_run.specs.Deed.{Deed}
 use Rattle.gs_run.specs.Done.{ran}
@@ -46,8 +46,8 @@ is_input (output.Input session channel event) = true
 is_input _ = false
 
 -- those of a kind that name that session
-abbrev pub lines_of : (Output → Bool) → ℕ → List Report → List Report
-lines_of kind session reports = filter (λ r. kind r.output && session_of r.output == session) reports
+abbrev pub reported_lines : (Output → Bool) → ℕ → List Report → List Report
+reported_lines kind session reports = filter (λ r. kind r.output && session_of r.output == session) reports
 
 -- ---- what they are
 
@@ -55,15 +55,15 @@ abbrev pub input_report : ℕ → ToldInput → Report
 input_report session told = plain (output.Input session told.channel told.event)
 
 -- what each part of a session gives, the first part first
-abbrev pub over_parts : (Part → List Report) → Session → List Report
+abbrev pub over_parts : (Part → List Report) → RunSession → List Report
 over_parts give session = flat_map give (reverse session.earlier) ++ give session.part
 
 -- behind any deeds the lines of this kind are, for each session, what its parts give
 abbrev pub RunsReport : (Output → Bool) → (ℕ → Part → List Report) → Type 0
 RunsReport kind give =
-    (file : CaptureFile) (deeds : List Deed) (number : ℕ) (session : Session)
+    (file : CaptureFile) (deeds : List Deed) (number : ℕ) (session : RunSession)
     → session_numbered (ran file deeds start).state number ≡ Some session
-    → lines_of kind number (ran file deeds start).reports ≡ over_parts (give number) session
+    → reported_lines kind number (ran file deeds start).reports ≡ over_parts (give number) session
 
 -- the frames that the client is handed, with their units
 abbrev pub RunsReportHanded : Type 0

@@ -1,9 +1,9 @@
 -- What holds of every part of every session, behind any deeds of a run.
-use Rattle.std.specs.Prelude.{ℕ, ◌≡◌, ◌⊎◌, ◌≤◌, true, false, List, ◌++◌}
+use Rattle.std.specs.Prelude.{ℕ, ◌≡◌, ◌≤◌, true, false, List, ◌++◌}
 use Rattle.std.specs.List.{All, AllByRecursion, Contains}
 use Rattle.gs_rtp.specs.Stream.{StreamSettings}
 use Rattle.gs_tape.specs.Tick.{Tick}
-use Rattle.gs_tape.specs.Limits.{HoldsBytes, AreWithinLimits, most_audio}
+use Rattle.gs_tape.specs.Limits.{HoldsBytes, AreWithinLimits, IsDuration, most_audio}
 use Rattle.gs_refs.specs.declared.entry.Entry.{Entry}
 use Rattle.gs_refs.specs.History.{frame_kind, has_ended}
 use Rattle.gs_frames.specs.Client.{Arrival, HasWindow}
@@ -33,7 +33,7 @@ pub record IsCapture (file : CaptureFile) : Type 0 where
   pub ticks : AreWithinLimits file.audio 1 0 file.ticks
   pub bytes : All HoldsBytes file.ticks
   pub audio : file.audio ≤ most_audio
-  pub duration : (file.duration ≡ 5) ⊎ (file.duration ≡ 10)
+  pub duration : IsDuration file.duration
 
 -- it holds of each part of each session, behind any deeds
 abbrev pub OfEachPart : (List Tick → Part → Type 0) → Type 0
@@ -59,8 +59,8 @@ abbrev pub RunsArePaired : Type 0
 RunsArePaired = OfEachPart IsPairedPart
 
 -- frame f of a history with its kind and its captured unit, and as it is handed
-abbrev pub sent_frame : List Tick → List Entry → ℕ → Frame
-sent_frame ticks h f = record { kind = frame_kind h f; unit = unit_of ticks h f }
+abbrev pub captured_frame : List Tick → List Entry → ℕ → Frame
+captured_frame ticks h f = record { kind = frame_kind h f; unit = unit_of ticks h f }
 
 abbrev pub handing_of : List Tick → List Entry → ℕ → Handed
 handing_of ticks h f = record { frame = f; kind = frame_kind h f; unit = unit_of ticks h f }
@@ -87,7 +87,7 @@ RunsHandReferences = OfEachPart HandsReferences
 pub record CompletesFrames (ticks : List Tick) (part : Part) : Type 0 where
   pub complete : (before after : List Arrival) (f : ℕ)
       → part.came ≡ after ++ before → CameWhole part.settings ticks part.history before f
-      → IsComplete part.settings (taken part.settings part.came) f (sent_frame ticks part.history f)
+      → IsComplete part.settings (taken part.settings part.came) f (captured_frame ticks part.history f)
   pub handed : (before after : List Arrival) (f : ℕ)
       → part.came ≡ after ++ before → CameWhole part.settings ticks part.history before f
       → f ≤ settled part.settings (taken part.settings part.came)

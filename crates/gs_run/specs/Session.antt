@@ -16,7 +16,7 @@ use Rattle.gs_enet.specs.World.{Side}
 use Rattle.gs_audio.specs.Played.{PlayedUnit, played}
 
 -- up to which of the datagrams of each kind `pump` has delivered
-pub record Marks : Type 0 where
+pub record PartMarks : Type 0 where
   pub video : ℕ
   pub audio : ℕ
   pub up : ℕ
@@ -37,10 +37,10 @@ pub record Part : Type 0 where
   pub host : Side
   -- what its client is to ask for once the window takes it, in order
   pub owed : List Owed
-  pub marks : Marks
+  pub marks : PartMarks
 
 -- the part that runs, and those before it, the newest first
-pub record Session : Type 0 where
+pub record RunSession : Type 0 where
   pub part : Part
   pub earlier : List Part
 
@@ -48,7 +48,7 @@ pub record Session : Type 0 where
 pub record State : Type 0 where
   pub captured : ℕ
   pub moment : ℕ
-  pub sessions : List Session
+  pub sessions : List RunSession
 
 abbrev pub start : State
 start = record { captured = 0; moment = 0; sessions = [] }
@@ -81,15 +81,15 @@ made_on channel part =
 
 -- ---- sessions by their numbers, from 1
 
-abbrev pub session_numbered : State → ℕ → Option Session
+abbrev pub session_numbered : State → ℕ → Option RunSession
 session_numbered state zero = None
 session_numbered state (suc before) = slice_get state.sessions before
 
-abbrev pub replaced : List Session → ℕ → Session → List Session
+abbrev pub replaced : List RunSession → ℕ → RunSession → List RunSession
 replaced [] place session = []
 replaced (old ∷ sessions) zero session = session ∷ sessions
 replaced (old ∷ sessions) (suc place) session = old ∷ replaced sessions place session
 
 -- the state with this session in the place of that number
-abbrev pub with_session : ℕ → Session → State → State
+abbrev pub with_session : ℕ → RunSession → State → State
 with_session number session state = record state { sessions = replaced state.sessions (number - 1) session }

@@ -6,7 +6,7 @@ use Rattle.gs_input.specs.declared.event.Event.{Event}
 use Rattle.gs_enet.specs.declared.event.PeerEvent.{PeerEvent}
 use Rattle.gs_enet.specs.declared.event.PeerEvent.TheVariants as event
 use Rattle.gs_schedule.specs.declared.output.Output.TheVariants as output
-use Rattle.gs_run.specs.Session.{Part, Session, handed_of, asked_of, played_of}
+use Rattle.gs_run.specs.Session.{Part, RunSession, handed_of, asked_of, played_of}
 use Rattle.gs_run.specs.Message.{Act, Input, act_of}
 use Rattle.gs_run.specs.Report.{Report, plain}
 
@@ -27,11 +27,11 @@ input_of _ = []
 abbrev pub inputs_of : Part → List ToldInput
 inputs_of part = flat_map input_of part.host.peer.told
 
-abbrev pub parts_of : Session → List Part
+abbrev pub parts_of : RunSession → List Part
 parts_of session = session.part ∷ session.earlier
 
 -- frames sent, frames handed, asks, inputs told, audio units played
-unfoldable pub total_of : ℕ → Session → Report
+unfoldable pub total_of : ℕ → RunSession → Report
 total_of number session =
     let parts = parts_of session in
     plain (output.Total number
@@ -42,6 +42,6 @@ total_of number session =
     (sum_by (λ part. length (played_of part)) parts))
 
 -- those of the sessions from that number on
-abbrev pub totals_from : ℕ → List Session → List Report
+abbrev pub totals_from : ℕ → List RunSession → List Report
 totals_from number [] = []
 totals_from number (session ∷ sessions) = total_of number session ∷ totals_from (number + 1) sessions

@@ -14,7 +14,7 @@ use Rattle.gs_schedule.specs.declared.step.Step.{Step}
 use Rattle.gs_schedule.specs.declared.step.Step.TheVariants as step
 use Rattle.gs_schedule.specs.declared.output.Output.TheVariants as output
 use Rattle.gs_run.specs.CaptureFile.{CaptureFile}
-use Rattle.gs_run.specs.Session.{Part, Session, State, start, session_numbered}
+use Rattle.gs_run.specs.Session.{Part, RunSession, State, start, session_numbered}
 use Rattle.gs_run.specs.Report.{Report, plain, Acted}
 use Rattle.gs_run.specs.Message.{event_channel}
 use Rattle.gs_run.specs.Deed.{SessionDeed, Give, Deed, In}
@@ -28,7 +28,7 @@ abbrev pub event_message : Event → List ℕ
 event_message event = bytes_of (message.Input event)
 
 -- the event of a deed in a session, where it is of that channel and the channel's window takes it
-abbrev pub event_in : ℕ → SessionDeed → Option Session → List Event
+abbrev pub event_in : ℕ → SessionDeed → Option RunSession → List Event
 event_in channel (Give event) (Some session) =
     if event_channel event == channel && not (is_full session.part.client.peer (event_channel event))
     then event ∷ []
@@ -55,14 +55,15 @@ user_events file number channel (deed ∷ deeds) state =
 -- on each channel but that of requests a client gave the events of its user, in order, and nothing else
 abbrev pub GiveEvents : CaptureFile → List Deed → State → Type 0
 GiveEvents file deeds state =
-    (number channel : ℕ) (session : Session) → channel ≢ request_channel → session_numbered state number ≡ Some session
+    (number channel : ℕ) (session : RunSession) → channel ≢ request_channel
+    → session_numbered state number ≡ Some session
     → given_on channel session.part.client.peer.given ≡ map event_message (user_events file number channel deeds start)
 
 -- the event that a deed or a step has, if any, is of a known kind with its numbers in range,
 -- as the lines of a schedule are
-abbrev pub IsProper : Deed → Type 0
-IsProper (In session (Give event)) = IsEvent event
-IsProper _ = ⊤
+abbrev pub IsProperDeed : Deed → Type 0
+IsProperDeed (In session (Give event)) = IsEvent event
+IsProperDeed _ = ⊤
 
 abbrev pub IsProperStep : Step → Type 0
 IsProperStep (step.Input session event) = IsEvent event
@@ -83,7 +84,8 @@ pub record TellsUser (file : CaptureFile) (deeds : List Deed) (reports : List Re
 -- on each channel but that of requests
 abbrev pub TellUsers : CaptureFile → List Deed → State → List Report → Type 0
 TellUsers file deeds state reports =
-    (number channel : ℕ) (session : Session) → channel ≢ request_channel → session_numbered state number ≡ Some session
+    (number channel : ℕ) (session : RunSession) → channel ≢ request_channel
+    → session_numbered state number ≡ Some session
     → TellsUser file deeds reports number channel session.part
 
 abbrev pub RunsGiveEvents : Type 0
@@ -91,5 +93,5 @@ RunsGiveEvents = (file : CaptureFile) (deeds : List Deed) → GiveEvents file de
 
 abbrev pub RunsTellUsers : Type 0
 RunsTellUsers =
-    (file : CaptureFile) (deeds : List Deed) → IsCapture file → AllByRecursion IsProper deeds
+    (file : CaptureFile) (deeds : List Deed) → IsCapture file → AllByRecursion IsProperDeed deeds
     → TellUsers file deeds (ran file deeds start).state (ran file deeds start).reports

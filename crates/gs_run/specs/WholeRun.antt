@@ -15,18 +15,19 @@ use Rattle.gs_schedule.specs.declared.status.TrialStatus.TheVariants as status
 use Rattle.gs_schedule.specs.declared.output.Output.{Output}
 use Rattle.gs_schedule.specs.declared.output.Output.TheVariants as output
 use Rattle.gs_run.specs.CaptureFile.{CaptureFile, file_of, generated_file}
-use Rattle.gs_run.specs.Session.{Part, Session, State, start, session_numbered, handed_of, asked_of, played_of}
+use Rattle.gs_run.specs.Session.{Part, RunSession, State, start, session_numbered, handed_of, asked_of, played_of}
 use Rattle.gs_run.specs.Report.{Report, plain, ask_report, hand_report, play_report}
 use Rattle.gs_run.specs.Hearing.{entry_output}
 use Rattle.gs_run.specs.Deed.{Deed}
 use Rattle.gs_run.specs.Done.{ran}
 use Rattle.gs_run.specs.Totals.{inputs_of, parts_of, totals_from}
 use Rattle.gs_run.specs.Run.{Run, IsRun, IsRunOfSteps}
-use Rattle.gs_run.specs.UserEvents.{GiveEvents, IsProper, IsProperStep, TellUsers}
+use Rattle.gs_run.specs.UserEvents.{GiveEvents, IsProperDeed, IsProperStep, TellUsers}
 use Rattle.gs_run.specs.Generated.{IsGeneratedRun}
 use Rattle.gs_run.specs.RunLaws.{IsCapture, IsPairedPart, HandsCaptured, HandsReferences}
 use Rattle.gs_run.specs.RunLaws.{CompletesFrames, PlaysCaptured, TellsInOrder}
-use Rattle.gs_run.specs.ReportLaws.{lines_of, is_hand, is_ask, is_play, is_input, input_report, over_parts, RunsReport}
+use Rattle.gs_run.specs.ReportLaws.{reported_lines, is_hand, is_ask, is_play, is_input, input_report, over_parts}
+use Rattle.gs_run.specs.ReportLaws.{RunsReport}
 
 -- ---- which deeds a run did
 
@@ -92,14 +93,14 @@ closed_report number event.PeerClosed = plain (output.Closed number) ∷ []
 closed_report number _ = []
 
 -- what the parts of a session give, and nothing where there is no session
-abbrev pub given_by : (Part → List Report) → Option Session → List Report
+abbrev pub given_by : (Part → List Report) → Option RunSession → List Report
 given_by give None = []
 given_by give (Some session) = over_parts give session
 
 -- the lines of this kind that name a number are what the parts of that session give
 abbrev pub ReportsAre : (Output → Bool) → (ℕ → Part → List Report) → State → List Report → Type 0
 ReportsAre kind give state reports =
-    (number : ℕ) → lines_of kind number reports ≡ given_by (give number) (session_numbered state number)
+    (number : ℕ) → reported_lines kind number reports ≡ given_by (give number) (session_numbered state number)
 
 -- The lines of each of these kinds, in order: the entries of the host's history, the frames handed with their units,
 -- the ranges asked for, the audio units played, the input events told, and that the client closed.
@@ -118,7 +119,7 @@ TellsAll part = (channel : ℕ) → told part.host.peer channel ≡ given_on cha
 -- where a line says that the client of a session closed, its host was told all
 abbrev pub TellAllOnceClosed : State → List Report → Type 0
 TellAllOnceClosed state reports =
-    (number : ℕ) (session : Session) → session_numbered state number ≡ Some session
+    (number : ℕ) (session : RunSession) → session_numbered state number ≡ Some session
     → Contains reports (plain (output.Closed number)) → TellsAll session.part
 
 -- ---- laws of any deeds
@@ -152,7 +153,7 @@ pub record StateHolds (file : CaptureFile) (deeds : List Deed) (state : State) (
 pub record RunHolds (file : CaptureFile) (run : Run) : Type 0 where
   pub deeds : List Deed
   pub done : IsDoneBy file run deeds
-  pub proper : AllByRecursion IsProper deeds
+  pub proper : AllByRecursion IsProperDeed deeds
   pub at_each_step : (n : ℕ)
       → let did = ran file (take n deeds) start in StateHolds file (take n deeds) did.state did.reports
   pub at_the_end : StateHolds file deeds run.state run.reports

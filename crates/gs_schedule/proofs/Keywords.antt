@@ -8,9 +8,10 @@ use Rattle.std.specs.Bool.{then_some}
 use Rattle.std.specs.Option.{IfNone}
 use Rattle.std.specs.Fmt.{decimal}
 use Rattle.std.proofs.lemmas.Fmt.{decimal_injective}
+use Rattle.std.proofs.lemmas.Option.{same_Some}
 use Rattle.gs_input.specs.declared.event.Event.{Event}
 use Rattle.gs_input.specs.declared.event.Event.TheVariants as event
-use Rattle.gs_input.specs.Line.{name_of}
+use Rattle.gs_input.specs.Line.{event_name}
 use Rattle.gs_schedule.specs.declared.keyword.Keyword.{Keyword}
 use Rattle.gs_schedule.specs.declared.keyword.Keyword.TheVariants as keyword
 use Rattle.gs_schedule.specs.declared.step.Step.{Step}
@@ -52,7 +53,7 @@ keyword_in-text keyword.Close = refl
 keyword_in-text keyword.Reset = refl
 
 -- an event has none
-keyword_in-event : (e : Event) → keyword_in (name_of e) ≡ None
+keyword_in-event : (e : Event) → keyword_in (event_name e) ≡ None
 unfolding keyword_in
 keyword_in-event (event.KeyDown code modifiers) = refl
 keyword_in-event (event.KeyUp code modifiers) = refl
@@ -63,14 +64,11 @@ keyword_in-event (event.Release button) = refl
 keyword_in-event (event.Scroll amount) = refl
 keyword_in-event (event.Unknown magic) = refl
 
-same : {X : Type 0} (x y : X) → Some x ≡ Some y → x ≡ y
-same x y e = cc
-
 -- a word is one keyword's
 pub same_keyword : (k m : Keyword) → keyword_text k ≡ keyword_text m → k ≡ m
-same_keyword k m e = same k m (sym (keyword_in-text k) ∙ ap keyword_in e ∙ keyword_in-text m)
+same_keyword k m e = same_Some k m (sym (keyword_in-text k) ∙ ap keyword_in e ∙ keyword_in-text m)
 
-pub not_event : (k : Keyword) (e : Event) → keyword_text k ≡ name_of e → ⊥
+pub not_event : (k : Keyword) (e : Event) → keyword_text k ≡ event_name e → ⊥
 not_event k e h = let same : Some k ≡ None = sym (keyword_in-text k) ∙ ap keyword_in h ∙ keyword_in-event e in cc
 
 -- what the words behind a keyword say

@@ -16,13 +16,13 @@ use Rattle.gs_bytes.specs.Words.{is_space, words_of, line_of}
 use Rattle.gs_input.specs.declared.event.Event.{Event}
 use Rattle.gs_input.specs.declared.event.Event.TheVariants.{Unknown}
 use Rattle.gs_input.specs.Event.{FitsTypes as EventFits, HasButton, IsEvent, IsKnown}
-use Rattle.gs_input.specs.Line.{name_of, arguments_of, event_line}
+use Rattle.gs_input.specs.Line.{event_name, arguments_of, event_line}
 use Rattle.gs_bytes.proofs.Decimals.{signed_decimal_once}
 use Rattle.gs_bytes.proofs.WordLemmas.{HasNoSpace, HaveNoSpace, decimal-no_space, signed_decimal-no_space, words_of-front, words_of-line_of}
 use Rattle.gs_input.proofs.Lines.{one_event, words_of-event_line}
 use Rattle.gs_schedule.specs.declared.output.Output.{Output}
 use Rattle.gs_schedule.specs.declared.output.Output.TheVariants.{Sent, Ask, Hand, Play, Invalid, Idr, Ended, Input, Full, Closed, Lost, Reset, Total, Done}
-use Rattle.gs_schedule.specs.Output.{AreWide, FitsOutputTypes, counted, output_line, output_words}
+use Rattle.gs_schedule.specs.Output.{AreWide, FitsOutputTypes, name_and_numbers, output_line, output_words}
 use Rattle.gs_schedule.proofs.Keywords.{head, same_list, tail}
 
 numbers-no_space : (numbers : List ℕ) → AreWide numbers → HaveNoSpace (map decimal numbers)
@@ -33,7 +33,7 @@ numbers-no_space (n ∷ numbers) h = (decimal-no_space n h.0, numbers-no_space n
 abbrev IsLineOfWords : List (List ℕ) → Type 0
 IsLineOfWords words = words_of (line_of words) ≡ words
 
-of_counted : (name numbers : List ℕ) → HasNoSpace name → AreWide numbers → IsLineOfWords (counted name numbers)
+of_counted : (name numbers : List ℕ) → HasNoSpace name → AreWide numbers → IsLineOfWords (name_and_numbers name numbers)
 of_counted name numbers h hs = words_of-line_of name (map decimal numbers) h (numbers-no_space numbers hs)
 
 words_are : (output : Output) → FitsOutputTypes output → IsLineOfWords (output_words output)
@@ -80,7 +80,7 @@ known_or : (e : Event) → IsKnown e ⊎ ((magic : ℕ) × (e ≡ Unknown magic)
 known_or (Unknown magic) = inr (magic, refl)
 known_or e = inl tt
 
-not_unknown : (e : Event) → IsKnown e → name_of e ≡ codes "unknown" → ⊥
+not_unknown : (e : Event) → IsKnown e → event_name e ≡ codes "unknown" → ⊥
 not_unknown (Unknown magic) known e = known
 not_unknown event known e = apart _ _ (ap value e) refl
 
@@ -91,18 +91,18 @@ unknown_once : (m n : ℕ) → EventFits (Unknown m) → EventFits (Unknown n) �
 unknown_once m n h k e = ap (λ (magic : ℕ). Unknown magic) (decimal_injective m n (omega (arith, h)) (omega (arith, k)) (head _ _ _ _ e))
 
 -- an event is told by its words
-same_event : (e f : Event) → EventFits e × HasButton e → EventFits f × HasButton f → name_of e ∷ arguments_of e ≡ name_of f ∷ arguments_of f → e ≡ f
+same_event : (e f : Event) → EventFits e × HasButton e → EventFits f × HasButton f → event_name e ∷ arguments_of e ≡ event_name f ∷ arguments_of f → e ≡ f
 same_event e f h k w =
     elim (known_or e) [
       | inl known ↦
           elim (known_or f) [
             | inl other ↦ one_event (event_line e) e f (record { proper = proper e known h; text = refl })
                 (record { proper = proper f other k; text = ap line_of w })
-            | inr other ↦ absurd (not_unknown e known (head _ _ _ _ w ∙ ap name_of other.1))
+            | inr other ↦ absurd (not_unknown e known (head _ _ _ _ w ∙ ap event_name other.1))
           ]
       | inr magic ↦
           elim (known_or f) [
-            | inl other ↦ absurd (not_unknown f other (sym (head _ _ _ _ w) ∙ ap name_of magic.1))
+            | inl other ↦ absurd (not_unknown f other (sym (head _ _ _ _ w) ∙ ap event_name magic.1))
             | inr other ↦
                 let first = subst EventFits magic.1 h.0 in
                 let second = subst EventFits other.1 k.0 in

@@ -5,7 +5,7 @@ use Rattle.std.specs.List.{onto_first, slice_split}
 use Rattle.std.specs.Fmt.{decimal}
 use Rattle.gs_input.specs.declared.event.Event.{Event}
 use Rattle.gs_input.specs.declared.event.Event.TheVariants as event
-use Rattle.gs_input.specs.Line.{name_of, arguments_of, event_line}
+use Rattle.gs_input.specs.Line.{event_name, arguments_of, event_line}
 use Rattle.gs_bytes.specs.Words.{is_space, words_of, line_of}
 use Rattle.gs_bytes.proofs.Decimals.{decimal_once}
 use Rattle.gs_input.proofs.Lines.{one_event}
@@ -23,7 +23,7 @@ first_byte [] = 0
 first_byte ([] ∷ words) = 0
 first_byte ((b ∷ word) ∷ words) = b
 
-named_low : (e : Event) (words : List (List ℕ)) → 97 ≤ first_byte (name_of e ∷ words)
+named_low : (e : Event) (words : List (List ℕ)) → 97 ≤ first_byte (event_name e ∷ words)
 unfolding first_byte
 named_low (event.KeyDown code modifiers) words = lit≤ tt
 named_low (event.KeyUp code modifiers) words = lit≤ tt
@@ -131,9 +131,9 @@ said_once keyword.Reset words first second h g = let same : h.0 ∷ [] ≡ g.0 �
 -- an event is told by its words
 event_once : (words : List (List ℕ)) (s r : ℕ) (e f : Event) → AreWords words (Input s e) → AreWords words (Input r f) → Input s e ≡ Input r f
 event_once words s r e f h g =
-    let same : name_of e ∷ decimal s ∷ arguments_of e ≡ name_of f ∷ decimal r ∷ arguments_of f = sym h.2 ∙ g.2 in
+    let same : event_name e ∷ decimal s ∷ arguments_of e ≡ event_name f ∷ decimal r ∷ arguments_of f = sym h.2 ∙ g.2 in
     let session : s ≡ r = decimal_once s r h.1 g.1 (cc) in
-    let line : name_of e ∷ arguments_of e ≡ name_of f ∷ arguments_of f = cc in
+    let line : event_name e ∷ arguments_of e ≡ event_name f ∷ arguments_of f = cc in
     let event : e ≡ f = one_event (event_line e) e f (record { proper = h.0; text = refl }) (record { proper = g.0; text = ap line_of line }) in
     cc
 
@@ -153,7 +153,7 @@ words_once words first second h g =
     ]
 
 -- a line that isn't blank spells what its words are
-spelled : (line : List ℕ) (step : Step) → AreWords (words_of line) step → Spells line step
+pub spelled : (line : List ℕ) (step : Step) → AreWords (words_of line) step → Spells line step
 spelled line Blank h = absurd h
 spelled line step h = h
 

@@ -22,8 +22,8 @@ pub record LinesState : Type 0 where
   pub held : List ℕ
 
 -- where it is told, what is to come: what was read ahead, and then what the source has left
-abbrev pub to_come : LinesState → Option (List ℕ) → Option (List ℕ)
-to_come lines left = prepend_known lines.held left
+abbrev pub lines_to_come : LinesState → Option (List ℕ) → Option (List ℕ)
+lines_to_come lines left = prepend_known lines.held left
 
 -- the most bytes of a line, without its newline
 abbrev pub most_line : ℕ
@@ -49,11 +49,11 @@ next_line given (line ∷ lines) =
     else Ok (Some (record { number = given + 1; bytes = line }))
 
 -- a reader answered so, unless a read failed or memory ran out
-abbrev pub Answers : Result (Option Line) LinesError → Result (Option Line) ℕ → Type 0
-Answers (Ok found) expected = expected ≡ Ok found
-Answers (Err (TooLong line)) expected = expected ≡ Err line
-Answers (Err ReadFault) expected = ⊤
-Answers (Err OutOfMemory) expected = ⊤
+abbrev pub AnswersLine : Result (Option Line) LinesError → Result (Option Line) ℕ → Type 0
+AnswersLine (Ok found) expected = expected ≡ Ok found
+AnswersLine (Err (TooLong line)) expected = expected ≡ Err line
+AnswersLine (Err ReadFault) expected = ⊤
+AnswersLine (Err OutOfMemory) expected = ⊤
 
 -- where the bytes to come are told: this line was the first of them, and the others are still to come
 abbrev pub LosesLine : Option (List ℕ) → Option (List ℕ) → List ℕ → Type 0

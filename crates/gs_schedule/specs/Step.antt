@@ -4,7 +4,7 @@ use Rattle.std.specs.List.{AllByRecursion}
 use Rattle.std.specs.Fmt.{decimal}
 use Rattle.gs_bytes.specs.Words.{words_of}
 use Rattle.gs_input.specs.Event.{IsEvent}
-use Rattle.gs_input.specs.Line.{name_of, arguments_of}
+use Rattle.gs_input.specs.Line.{event_name, arguments_of}
 use Rattle.gs_schedule.specs.declared.limits.TheConstants.{MOST_TIME}
 use Rattle.gs_schedule.specs.declared.step.Step.{Step}
 use Rattle.gs_schedule.specs.declared.step.Step.TheVariants.{Blank, Session, Cap, Send, Video, Audio, Videos, Up, Down}
@@ -42,7 +42,7 @@ AreWords words (Videos session first last) = HasNumbers words (codes "videos") (
 AreWords words (Up session k) = HasNumbers words (codes "up") (session ∷ k ∷ [])
 AreWords words (Down session k) = HasNumbers words (codes "down") (session ∷ k ∷ [])
 AreWords words (Input session event) =
-    IsEvent event × (session < 2 ^ 32) × (words ≡ name_of event ∷ decimal session ∷ arguments_of event)
+    IsEvent event × (session < 2 ^ 32) × (words ≡ event_name event ∷ decimal session ∷ arguments_of event)
 AreWords words (Idr session) = HasNumbers words (codes "idr") (session ∷ [])
 AreWords words (Time by) = HasNumbers words (codes "time") (by ∷ []) × (by ≤ most_time)
 AreWords words (Pump session every) = HasNumbers words (codes "pump") (session ∷ every ∷ [])

@@ -1,6 +1,7 @@
 //! What was read of a source ahead of its use.
 
-ghost use Rattle.std.specs.Prelude.{◌≡◌, ◌≢◌, ◌≤◌, ◌<◌, ◌+◌, Err, IfOk, IsErrOf, IsTrue, OnErr, OnOk, drop, false, length, true, ⊤};
+ghost use Rattle.std.specs.Prelude.{◌≡◌, ◌≢◌, ◌≤◌, ◌<◌, ◌+◌, Err, IfOk, IsErrOf, IsTrue, OnErr, OnOk, drop, false};
+ghost use Rattle.std.specs.Prelude.{length, true, ⊤};
 ghost use Rattle.std.specs.Io.KnownBytes.{IsAtEnd, Keeps, prepend_known};
 ghost use Rattle.gs_bytes.specs.Outside.{KeepsFlag, Rose, SetsFlag};
 
@@ -60,7 +61,8 @@ impl Held {
     /// fails leaves all as it was.
     pub fn fill<S: Source>(&mut self, source: &mut S) -> Result<bool, Failed>
         // What is held, and then what the source has left, is what is to come.
-        ensures to_come { Keeps (prepend_known self.old (S.left source.old)) (prepend_known self.new (S.left source.new)) }
+        ensures to_come { Keeps (prepend_known self.old (S.left source.old))
+            (prepend_known self.new (S.left source.new)) }
         ensures more { IfOk result (λ more. more ≡ true → length self.old < length self.new) }
         ensures end { IfOk result (λ more. more ≡ false → IsAtEnd (S.left source.new)) }
         ensures met_end { IfOk result (λ more. more ≡ false → SetsFlag (S.met_end source.old) (S.met_end source.new)) }

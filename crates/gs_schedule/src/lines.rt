@@ -1,9 +1,11 @@
 //! The lines of a source.
 
-ghost use Rattle.std.specs.Prelude.{◌≡◌, ◌≢◌, ◌≤◌, ◌<◌, ◌+◌, ◌-◌, ◌^◌, ◌==◌, ◌||◌, ◌∷◌, ℕ, Err, IfErr, IfNone, IfOk, IfSome, IsErrOf, MatchOption, OnErr, OnOk, drop, length, nat_lt, take, true};
+ghost use Rattle.std.specs.Prelude.{◌≡◌, ◌≢◌, ◌≤◌, ◌<◌, ◌+◌, ◌-◌, ◌^◌, ◌==◌, ◌||◌, ◌∷◌, ℕ, Err, IfErr, IfNone, IfOk};
+ghost use Rattle.std.specs.Prelude.{IfSome, IsErrOf, MatchOption, OnErr, OnOk, drop, length, nat_lt, take, true};
 ghost use Rattle.std.specs.Io.KnownBytes.{IsAtEnd, Keeps, prepend_known};
 ghost use Rattle.gs_bytes.specs.Outside.{Rose, SetsFlag};
-ghost use Rattle.gs_schedule.specs.Lines.{Answers, IsFront, IsUnbroken, LosesLine, TellsFlag, holds_line, lines_of, most_line, newline, next_line, to_come};
+ghost use Rattle.gs_schedule.specs.Lines.{AnswersLine, IsFront, IsUnbroken, LosesLine, TellsFlag, holds_line, lines_of};
+ghost use Rattle.gs_schedule.specs.Lines.{most_line, newline, next_line, lines_to_come};
 
 use crate::held::Held;
 use crate::limits::MOST_LINE;
@@ -15,7 +17,8 @@ use std::marker::Model;
 
 /// The place of the first newline.
 fn newline_in(bytes: &[u8]) -> Option<usize>
-    ensures found { IfSome result (λ at. IsUnbroken (take at bytes.now) × (drop at bytes.now ≡ newline ∷ drop (at + 1) bytes.now)) }
+    ensures found { IfSome result (λ at. IsUnbroken (take at bytes.now)
+        × (drop at bytes.now ≡ newline ∷ drop (at + 1) bytes.now)) }
     ensures within { IfSome result (λ at. at < length bytes.now) }
     ensures none { IfNone result (IsUnbroken bytes.now) }
 {
@@ -109,22 +112,27 @@ impl Lines {
     /// next call. After any error no byte is lost.
     pub fn next<S: Source>(&mut self, source: &mut S) -> Result<Option<Line>, LinesError>
         // The first of the lines that are to come is given.
-        ensures given { IfSome (to_come self.old (S.left source.old)) (λ bytes. Answers result (next_line self.old.given (lines_of bytes))) }
+        ensures given { IfSome (lines_to_come self.old (S.left source.old)) (λ bytes.
+            AnswersLine result (next_line self.old.given (lines_of bytes))) }
         ensures number { IfOk result (λ found. IfSome found (λ line. line.number ≡ self.old.given + 1)) }
         ensures most { IfOk result (λ found. IfSome found (λ line. length line.bytes ≤ most_line)) }
         ensures refused { (line : ℕ) → result ≡ Err (LinesError.TooLong line) → line ≡ self.old.given + 1 }
 
         // The others are still to come, and all of them after None and after an error.
         ensures others { IfOk result (λ found. IfSome found (λ line.
-            LosesLine (to_come self.old (S.left source.old)) (to_come self.new (S.left source.new)) line.bytes)) }
-        ensures counts { IfOk result (λ found. MatchOption found (self.new.given ≡ self.old.given) (λ line. self.new.given ≡ line.number)) }
-        ensures end { IfOk result (λ found. IfNone found (IsAtEnd (to_come self.new (S.left source.new)))) }
+            LosesLine (lines_to_come self.old (S.left source.old))
+            (lines_to_come self.new (S.left source.new)) line.bytes)) }
+        ensures counts { IfOk result (λ found.
+            MatchOption found (self.new.given ≡ self.old.given) (λ line. self.new.given ≡ line.number)) }
+        ensures end { IfOk result (λ found. IfNone found (IsAtEnd (lines_to_come self.new (S.left source.new)))) }
         ensures met_end { IfOk result (λ found. IfNone found (SetsFlag (S.met_end source.old) (S.met_end source.new))) }
         ensures tells { TellsFlag (S.met_end source.old) (S.met_end source.new) }
-        ensures err { OnErr result (Keeps (to_come self.old (S.left source.old)) (to_come self.new (S.left source.new))) }
+        ensures err { OnErr result (Keeps (lines_to_come self.old (S.left source.old))
+            (lines_to_come self.new (S.left source.new))) }
         ensures err_given { OnErr result (self.new.given ≡ self.old.given) }
 
-        // Where it is held nothing is read, and it isn't the end; where a read fails it isn't held before and behind the call.
+        // Where it is held nothing is read, and it isn't the end; where a read fails it isn't held before and behind
+        // the call.
         ensures held { holds_line self.old.held ≡ true → source.new ≡ source.old }
         ensures some { holds_line self.old.held ≡ true → IfOk result (λ found. IfNone found ⊥) }
         ensures unheld { IsErrOf result LinesError.ReadFault → holds_line self.old.held ≡ true → ⊥ }

@@ -9,7 +9,8 @@ use gs_bytes::{Words, parse_number};
 /// Takes a number.
 pub fn next_number(words: &mut Words<'_>) -> Option<u32>
     ensures found { IfSome result (λ number. TakesNumber (2 ^ 32) words.old number words.new) }
-    ensures none { IfNone result ((number : ℕ) (rest : List (List ℕ)) → TakesNumber (2 ^ 32) words.old number rest → ⊥) }
+    ensures none { IfNone result ((number : ℕ) (rest : List (List ℕ)) → TakesNumber (2 ^ 32) words.old number rest
+        → ⊥) }
 {
     parse_number(words.next_word()?, u32::MAX)
 }

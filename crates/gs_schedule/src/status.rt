@@ -1,6 +1,6 @@
 //! How a trial ends.
 
-use std::fmt;
+use std::{error, fmt};
 
 /// How a trial ended. What it shows on standard error is its text, which a trial that ended well
 /// hasn't.
@@ -78,3 +78,5 @@ impl fmt::Display for TrialStatus {
         }
     }
 }
+
+impl error::Error for TrialStatus {}

@@ -100,7 +100,8 @@ fn read_numbered(keyword: Keyword, words: Words<'_>) -> Option<Step>
 /// The step of an event's name, and of the session and the event's own words behind it.
 fn read_input(name: &[u8], mut words: Words<'_>) -> Option<Step>
     ensures found { IfSome result (λ step. AreWords (name.now ∷ words.entry) step) }
-    ensures none { IfNone result ((session : ℕ) (event : Event) → AreWords (name.now ∷ words.entry) (Input session event) → ⊥) }
+    ensures none { IfNone result ((session : ℕ) (event : Event)
+        → AreWords (name.now ∷ words.entry) (Input session event) → ⊥) }
 {
     let session = next_number(&mut words)?;
     let event = read_arguments(name, words)?;

@@ -3,7 +3,7 @@ use Rattle.std.proofs.Common.{◌≡◌, ℕ, ◌+◌, ◌-◌, ◌<◌, ◌≤�
 use Rattle.std.proofs.Common.{refl, sym, ap, ◌∙◌, append_assoc, arith, drop-cons, add-one}
 use Rattle.std.proofs.lemmas.List.{append-nil, length-drop, get_or-drop, take_more, drop_all}
 use Rattle.std.proofs.lemmas.Bool.Decides.{nat_tests}
-use Rattle.gs_sdp.specs.Lines.{with_byte, lines_of, value_in, later, last_among}
+use Rattle.gs_sdp.specs.Lines.{with_byte, crlf_lines, value_in, later, last_among}
 
 -- the first of some lines, with bytes in front
 abbrev pub with_front : List ℕ → List (List ℕ) → List (List ℕ)
@@ -18,20 +18,20 @@ front_none : (lines : List (List ℕ)) → with_front [] lines ≡ lines
 front_none [] = refl
 front_none (line ∷ lines) = refl
 
-pub lines_other : (b : ℕ) (bs : List ℕ) → (b ≡ 10 → ⊥) → lines_of (b ∷ bs) ≡ with_byte b (lines_of bs)
+pub lines_other : (b : ℕ) (bs : List ℕ) → (b ≡ 10 → ⊥) → crlf_lines (b ∷ bs) ≡ with_byte b (crlf_lines bs)
 lines_other b bs other =
     let test : eqb b 10 ≡ false = grind (arith, nat_tests) in
-    ap (λ (t : Bool). cond t ([] ∷ lines_of bs) (with_byte b (lines_of bs))) test
+    ap (λ (t : Bool). cond t ([] ∷ crlf_lines bs) (with_byte b (crlf_lines bs))) test
 
-pub lines_feed : (b : ℕ) (bs : List ℕ) → b ≡ 10 → lines_of (b ∷ bs) ≡ [] ∷ lines_of bs
+pub lines_feed : (b : ℕ) (bs : List ℕ) → b ≡ 10 → crlf_lines (b ∷ bs) ≡ [] ∷ crlf_lines bs
 lines_feed b bs same =
     let test : eqb b 10 ≡ true = grind (arith, nat_tests) in
-    ap (λ (t : Bool). cond t ([] ∷ lines_of bs) (with_byte b (lines_of bs))) test
+    ap (λ (t : Bool). cond t ([] ∷ crlf_lines bs) (with_byte b (crlf_lines bs))) test
 
 module _ (body : List ℕ) (start i : ℕ) (order : start ≤ i) where
   -- the bytes from the start of a line to here, and the lines behind them
   abbrev pub IsInLine : Type 0
-  IsInLine = lines_of (drop start body) ≡ with_front (take (i - start) (drop start body)) (lines_of (drop i body))
+  IsInLine = crlf_lines (drop start body) ≡ with_front (take (i - start) (drop start body)) (crlf_lines (drop i body))
 
   module _ (within : i < length body) where
     rest_of : drop i body ≡ get_or body i 0 ∷ drop (i + 1) body
@@ -45,27 +45,27 @@ module _ (body : List ℕ) (start i : ℕ) (order : start ≤ i) where
         ap (λ (n : ℕ). take n (drop start body)) next ∙ take_more (drop start body) (i - start) 0 size
         ∙ ap (λ (b : ℕ). take (i - start) (drop start body) ++ b ∷ []) (get_or-drop start body (i - start) 0 ∙ ap (λ (n : ℕ). get_or body n 0) place)
 
-    pub goes_on : (get_or body i 0 ≡ 10 → ⊥) → IsInLine → lines_of (drop start body) ≡ with_front (take (i + 1 - start) (drop start body))
-        (lines_of (drop (i + 1) body))
+    pub goes_on : (get_or body i 0 ≡ 10 → ⊥) → IsInLine → crlf_lines (drop start body) ≡ with_front (take (i + 1 - start) (drop start body))
+        (crlf_lines (drop (i + 1) body))
     goes_on other h =
-        h ∙ ap (λ (s : List ℕ). with_front (take (i - start) (drop start body)) (lines_of s)) rest_of
+        h ∙ ap (λ (s : List ℕ). with_front (take (i - start) (drop start body)) (crlf_lines s)) rest_of
         ∙ ap (with_front (take (i - start) (drop start body))) (lines_other (get_or body i 0) (drop (i + 1) body) other)
-        ∙ front_byte (take (i - start) (drop start body)) (get_or body i 0) (lines_of (drop (i + 1) body))
-        ∙ ap (λ (f : List ℕ). with_front f (lines_of (drop (i + 1) body))) (sym one_more)
+        ∙ front_byte (take (i - start) (drop start body)) (get_or body i 0) (crlf_lines (drop (i + 1) body))
+        ∙ ap (λ (f : List ℕ). with_front f (crlf_lines (drop (i + 1) body))) (sym one_more)
 
-    pub ends : get_or body i 0 ≡ 10 → IsInLine → lines_of (drop start body) ≡ take (i - start) (drop start body) ∷ lines_of (drop (i + 1) body)
+    pub ends : get_or body i 0 ≡ 10 → IsInLine → crlf_lines (drop start body) ≡ take (i - start) (drop start body) ∷ crlf_lines (drop (i + 1) body)
     ends same h =
-        h ∙ ap (λ (s : List ℕ). with_front (take (i - start) (drop start body)) (lines_of s)) rest_of
+        h ∙ ap (λ (s : List ℕ). with_front (take (i - start) (drop start body)) (crlf_lines s)) rest_of
         ∙ ap (with_front (take (i - start) (drop start body))) (lines_feed (get_or body i 0) (drop (i + 1) body) same)
-        ∙ ap (λ (l : List ℕ). l ∷ lines_of (drop (i + 1) body)) (append-nil (take (i - start) (drop start body)))
+        ∙ ap (λ (l : List ℕ). l ∷ crlf_lines (drop (i + 1) body)) (append-nil (take (i - start) (drop start body)))
 
-  pub none_left : length body ≤ i → IsInLine → lines_of (drop start body) ≡ []
-  none_left le h = h ∙ ap (λ (s : List ℕ). with_front (take (i - start) (drop start body)) (lines_of s)) (drop_all i body le)
+  pub none_left : length body ≤ i → IsInLine → crlf_lines (drop start body) ≡ []
+  none_left le h = h ∙ ap (λ (s : List ℕ). with_front (take (i - start) (drop start body)) (crlf_lines s)) (drop_all i body le)
 
-pub at_start : (body : List ℕ) (start : ℕ) → lines_of (drop start body) ≡ with_front (take (start - start) (drop start body)) (lines_of (drop start body))
+pub at_start : (body : List ℕ) (start : ℕ) → crlf_lines (drop start body) ≡ with_front (take (start - start) (drop start body)) (crlf_lines (drop start body))
 at_start body start =
     let none : start - start ≡ 0 = omega arith in
-    sym (ap (λ (n : ℕ). with_front (take n (drop start body)) (lines_of (drop start body))) none ∙ front_none (lines_of (drop start body)))
+    sym (ap (λ (n : ℕ). with_front (take n (drop start body)) (crlf_lines (drop start body))) none ∙ front_none (crlf_lines (drop start body)))
 
 -- ---- the last value
 

@@ -9,9 +9,9 @@ abbrev pub with_byte : ℕ → List (List ℕ) → List (List ℕ)
 with_byte b [] = []
 with_byte b (line ∷ lines) = (b ∷ line) ∷ lines
 
-abbrev pub lines_of : List ℕ → List (List ℕ)
-lines_of [] = []
-lines_of (b ∷ bs) = if b == 10 then [] ∷ lines_of bs else with_byte b (lines_of bs)
+abbrev pub crlf_lines : List ℕ → List (List ℕ)
+crlf_lines [] = []
+crlf_lines (b ∷ bs) = if b == 10 then [] ∷ crlf_lines bs else with_byte b (crlf_lines bs)
 
 -- a line may end with CR before its LF
 abbrev pub without_first_cr : List ℕ → List ℕ
@@ -22,14 +22,15 @@ abbrev pub without_cr : List ℕ → List ℕ
 without_cr line = reverse (without_first_cr (reverse line))
 
 -- what stands behind a prefix, where it is one
-abbrev pub behind : List ℕ → List ℕ → Option (List ℕ)
-behind prefix bs = if starts_with nat_eq bs prefix then Some (drop (length prefix) bs) else None
+abbrev pub behind_prefix : List ℕ → List ℕ → Option (List ℕ)
+behind_prefix prefix bs = if starts_with nat_eq bs prefix then Some (drop (length prefix) bs) else None
 
 -- the value of a line `a=NAME:VALUE` of this name, without the spaces at its end
 abbrev pub value_in : List ℕ → List ℕ → Option (List ℕ)
 value_in name line =
     option_and_then (λ bs. Some (without_last_spaces bs))
-    (option_and_then (behind (codes ":")) (option_and_then (behind name) (behind (codes "a=") (without_cr line))))
+    (option_and_then (behind_prefix (codes ":"))
+    (option_and_then (behind_prefix name) (behind_prefix (codes "a=") (without_cr line))))
 
 -- the later of two
 abbrev pub later : Option (List ℕ) → Option (List ℕ) → Option (List ℕ)
@@ -42,7 +43,7 @@ last_among name [] = None
 last_among name (line ∷ lines) = later (value_in name line) (last_among name lines)
 
 abbrev pub last_value : List ℕ → List ℕ → Option (List ℕ)
-last_value name body = last_among name (lines_of body)
+last_value name body = last_among name (crlf_lines body)
 
 -- a line as it is written
 abbrev pub line_text : List ℕ → List ℕ → List ℕ

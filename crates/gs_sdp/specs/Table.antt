@@ -8,11 +8,11 @@ use Rattle.gs_sdp.specs.declared.attributes.SettingName.{SettingName}
 use Rattle.gs_sdp.specs.declared.attributes.SettingName.TheVariants.{PacketSize, MaxFps, Minimum, Duration}
 use Rattle.gs_sdp.specs.Lines.{last_value, line_text}
 
-abbrev pub name_of : SettingName → List ℕ
-name_of PacketSize = codes "x-nv-video[0].packetSize"
-name_of MaxFps = codes "x-nv-video[0].maxFPS"
-name_of Minimum = codes "x-nv-vqos[0].fec.minRequiredFecPackets"
-name_of Duration = codes "x-nv-aqos.packetDuration"
+abbrev pub setting_name : SettingName → List ℕ
+setting_name PacketSize = codes "x-nv-video[0].packetSize"
+setting_name MaxFps = codes "x-nv-video[0].maxFPS"
+setting_name Minimum = codes "x-nv-vqos[0].fec.minRequiredFecPackets"
+setting_name Duration = codes "x-nv-aqos.packetDuration"
 
 -- the decimal number of a value within a range, and another number where the name is missing
 abbrev pub in_range : ℕ → ℕ → ℕ → Option ℕ
@@ -24,11 +24,11 @@ number_in least most missing (Some value) = option_and_then (in_range least most
 
 -- each setting that a body names, with its range and what it is where its name is missing
 abbrev pub setting : SettingName → List ℕ → Settings → Option ℕ
-setting PacketSize body offer = number_in least_packet most_packet 1392 (last_value (name_of PacketSize) body)
-setting MaxFps body offer = number_in least_fps most_fps 60 (last_value (name_of MaxFps) body)
-setting Minimum body offer = number_in 0 most_minimum 2 (last_value (name_of Minimum) body)
+setting PacketSize body offer = number_in least_packet most_packet 1392 (last_value (setting_name PacketSize) body)
+setting MaxFps body offer = number_in least_fps most_fps 60 (last_value (setting_name MaxFps) body)
+setting Minimum body offer = number_in 0 most_minimum 2 (last_value (setting_name Minimum) body)
 setting Duration body offer = number_in offer.duration offer.duration offer.duration
-    (last_value (name_of Duration) body)
+    (last_value (setting_name Duration) body)
 
 -- the settings by a body over an offer: the others are the offer's
 pub record AreSettings (body : List ℕ) (offer s : Settings) : Type 0 where
@@ -51,8 +51,8 @@ IsFirstBad body offer Duration = IsSome (setting PacketSize body offer) × IsSom
 
 -- the body that names the settings
 abbrev pub body_text : Settings → List ℕ
-body_text s = line_text (name_of PacketSize) (decimal s.packet) ++ line_text (name_of MaxFps) (decimal s.fps)
-    ++ line_text (name_of Minimum) (decimal s.minimum) ++ line_text (name_of Duration) (decimal s.duration)
+body_text s = line_text (setting_name PacketSize) (decimal s.packet) ++ line_text (setting_name MaxFps) (decimal s.fps)
+    ++ line_text (setting_name Minimum) (decimal s.minimum) ++ line_text (setting_name Duration) (decimal s.duration)
 
 -- what is written is read again, over an offer with the same duration
 abbrev pub IsReadAgain : Type 0

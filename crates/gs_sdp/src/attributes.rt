@@ -14,11 +14,11 @@ pub enum SettingName {
 }
 
 impl SettingName {
-    ghost use Rattle.gs_sdp.specs.Table.{name_of};
+    ghost use Rattle.gs_sdp.specs.Table.{setting_name};
 
     /// The name of the attribute.
     pub fn attribute(self) -> &'static [u8]
-        ensures { result.now ≡ name_of self }
+        ensures { result.now ≡ setting_name self }
     {
         match self {
             SettingName::PacketSize => b"x-nv-video[0].packetSize",

@@ -2,7 +2,7 @@
 
 ghost use Rattle.std.specs.Prelude.{◌≡◌, ◌++◌, decimal, IfOk, OnErr, OnOk};
 ghost use Rattle.gs_sdp.specs.Lines.{line_text};
-ghost use Rattle.gs_sdp.specs.Table.{body_text, name_of};
+ghost use Rattle.gs_sdp.specs.Table.{body_text, setting_name};
 
 use crate::attributes::SettingName;
 use gs_bytes::{OutOfMemory, Text};
@@ -31,7 +31,7 @@ pub fn push_line(out: &mut Vec<u8>, name: &[u8], value: u32) -> Result<(), Alloc
 }
 
 fn push_setting(out: &mut Vec<u8>, name: SettingName, value: u32) -> Result<(), AllocError>
-    ensures { OnOk result (out.new.items ≡ out.old.items ++ line_text (name_of name) (decimal value)) }
+    ensures { OnOk result (out.new.items ≡ out.old.items ++ line_text (setting_name name) (decimal value)) }
 {
     push_line(out, name.attribute(), value)
 }

@@ -2,13 +2,14 @@
 
 ghost use Rattle.std.specs.Prelude.{◌≡◌};
 ghost use Rattle.std.specs.Option.{option_copied};
-ghost use Rattle.gs_sdp.specs.Lines.{behind as behind_of, without_cr as without_cr_of, value_in as value_in_of, later as later_of, last_value as last_value_of};
+ghost use Rattle.gs_sdp.specs.Lines.{behind_prefix, without_cr as without_cr_of, value_in as value_in_of};
+ghost use Rattle.gs_sdp.specs.Lines.{later as later_of, last_value as last_value_of};
 
 use gs_bytes::trim_end;
 
 /// The bytes behind a prefix, where it is one.
 fn behind<'a>(prefix: &[u8], bytes: &'a [u8]) -> Option<&'a [u8]>
-    ensures { option_copied result ≡ behind_of prefix.now bytes.now }
+    ensures { option_copied result ≡ behind_prefix prefix.now bytes.now }
 {
     bytes.strip_prefix(prefix)
 }

@@ -3,7 +3,7 @@
 ghost use Rattle.std.specs.Prelude.{◌≡◌, ◌≤◌, IfOk, IfErr, IsOk, Some, None, Err};
 ghost use Rattle.gs_sdp.specs.declared.attributes.BadSetting.{BadSetting};
 ghost use Rattle.gs_sdp.specs.Lines.{last_value as last_value_of};
-ghost use Rattle.gs_sdp.specs.Table.{name_of, number_in, AreSettings, IsFirstBad};
+ghost use Rattle.gs_sdp.specs.Table.{setting_name, number_in, AreSettings, IsFirstBad};
 
 use crate::attributes::{BadSetting, SettingName};
 use crate::lines::last_value;
@@ -29,10 +29,11 @@ fn number(
 ) -> Result<u32, BadSetting>
     requires least { least ≤ missing }
     requires most { missing ≤ most }
-    ensures value { IfOk result (λ n. number_in least most missing (last_value_of (name_of name) body.now) ≡ Some n) }
+    ensures value { IfOk result
+        (λ n. number_in least most missing (last_value_of (setting_name name) body.now) ≡ Some n) }
     ensures least { IfOk result (λ n. least ≤ n) }
     ensures most { IfOk result (λ n. n ≤ most) }
-    ensures bad { IfErr result (λ e. number_in least most missing (last_value_of (name_of name) body.now) ≡ None) }
+    ensures bad { IfErr result (λ e. number_in least most missing (last_value_of (setting_name name) body.now) ≡ None) }
     ensures name { IfErr result (λ e. e.0 ≡ name) }
 {
     let Some(value) = last_value(body, name.attribute()) else {

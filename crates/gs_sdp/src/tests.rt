@@ -109,8 +109,8 @@ fn bad_settings(rt: HostRuntime) {
 fn written_body(rt: HostRuntime) -> Result<(), Fail> {
     let settings = Settings::make(1_392, 20, 2, 60, 5, 400, 1).ok_or("settings")?;
     let text = body_of(rt.alloc(), &settings)?;
-    let want =
-        b"a=x-nv-video[0].packetSize:1392\r\na=x-nv-video[0].maxFPS:60\r\na=x-nv-vqos[0].fec.minRequiredFecPackets:2\r\na=x-nv-aqos.packetDuration:5\r\n";
+    let want = b"a=x-nv-video[0].packetSize:1392\r\na=x-nv-video[0].maxFPS:60\r\n\
+            a=x-nv-vqos[0].fec.minRequiredFecPackets:2\r\na=x-nv-aqos.packetDuration:5\r\n";
     assert_eq!(rt; text.as_bytes(), want.as_slice());
     assert_eq!(rt; settings_of(text.as_bytes(), &settings), Ok(settings));
     Ok(())

@@ -6,7 +6,7 @@ use Rattle.std.specs.List.{AllByRecursion}
 use Rattle.std.specs.Arc.{arc_value}
 use mathlib.Core.List.{IsPrefix}
 use Rattle.std.proofs.lemmas.Bool.{cond-true, cond-false, cases_Bool, cases_eq}
-use Rattle.std.proofs.lemmas.List.{append_assoc, length-append}
+use Rattle.std.proofs.lemmas.List.{length-append}
 use Rattle.gs_refs.specs.declared.entry.Entry.{Entry}
 use Rattle.gs_refs.specs.declared.entry.Entry.TheVariants as entry
 use Rattle.gs_refs.specs.declared.sent.Sent.{Sent}
@@ -29,11 +29,9 @@ use Rattle.gs_session.specs.declared.call.Reply.TheVariants.{Chosen, Taken, Aske
 use Rattle.gs_session.specs.declared.session.Session.{Session}
 use Rattle.gs_session.specs.declared.pass.SessionPass.{SessionPass}
 use Rattle.gs_session.specs.Errors.{choose_error, invalid_error, ended_error, with_error}
-use Rattle.gs_session.specs.Replies.{MayReply, IsAnswered, IsRefused, answer_to, out_of_memory, is_chosen, is_taken, is_asked}
+use Rattle.gs_session.specs.Replies.{MayReply, IsAnswered, IsRefused, session_reply, out_of_memory, is_choice, is_invalidation, is_idr_request}
 use Rattle.gs_session.specs.Sessions.{SessionCall, opening_of, front, made_by, IsHistory, EndsWith}
-
-pub prefix-trans : {A : Type 0} (xs ys zs : List A) → IsPrefix xs ys → IsPrefix ys zs → IsPrefix xs zs
-prefix-trans xs ys zs (s, e) (t, f) = (s ++ t, sym (append_assoc xs s t) ∙ ap (λ l. l ++ t) e ∙ f)
+use Rattle.gs_bytes.proofs.Lists.{prefix_trans}
 
 -- the last call of a history was answered behind those before it
 leaves-last : (s : References) (h : List SessionCall) (e : SessionCall) (t : References) → Leaves MayReply s (h ++ e ∷ []) t
@@ -41,7 +39,7 @@ leaves-last : (s : References) (h : List SessionCall) (e : SessionCall) (t : Ref
 leaves-last s [] e t (u, step, done) = (s, refl, subst (λ (x : References). MayReply s e.call e.reply x) done step)
 leaves-last s (d ∷ ds) e t (u, step, rest) = let last = leaves-last u ds e t rest in (last.0, (u, step, last.1), last.2)
 
-answered : (b : References) (call : Call) (reply : Reply) (t : References) → MayReply b call reply t → (reply ≡ answer_to b.history call)
+answered : (b : References) (call : Call) (reply : Reply) (t : References) → MayReply b call reply t → (reply ≡ session_reply b.history call)
     ⊎ (reply ≡ out_of_memory call)
 answered b call reply t (inl is) = inl is.answer
 answered b call reply t (inr is) = inr is.answer
@@ -62,14 +60,15 @@ ends-with s old new call reply (t, leaves) (between, ends) =
 
 -- ---- each call has replies of its own
 
-pub is-chosen : (s : Session) (old new : SessionPass) (tick : _) (reply : Reply) → EndsWith s old new (Choose tick) reply → is_chosen reply ≡ true
-is-chosen s old new tick reply ends = elim ends.answer [ inl e ↦ ap is_chosen e | inr e ↦ ap is_chosen e ]
+pub is-chosen : (s : Session) (old new : SessionPass) (tick : _) (reply : Reply) → EndsWith s old new (Choose tick) reply → is_choice reply ≡ true
+is-chosen s old new tick reply ends = elim ends.answer [ inl e ↦ ap is_choice e | inr e ↦ ap is_choice e ]
 
-pub is-taken : (s : Session) (old new : SessionPass) (first last : ℤ) (reply : Reply) → EndsWith s old new (Invalidate first last) reply → is_taken reply ≡ true
-is-taken s old new first last reply ends = elim ends.answer [ inl e ↦ ap is_taken e | inr e ↦ ap is_taken e ]
+pub is-taken : (s : Session) (old new : SessionPass) (first last : ℤ) (reply : Reply) → EndsWith s old new (Invalidate first last) reply
+    → is_invalidation reply ≡ true
+is-taken s old new first last reply ends = elim ends.answer [ inl e ↦ ap is_invalidation e | inr e ↦ ap is_invalidation e ]
 
-pub is-asked : (s : Session) (old new : SessionPass) (reply : Reply) → EndsWith s old new AskIdr reply → is_asked reply ≡ true
-is-asked s old new reply ends = elim ends.answer [ inl e ↦ ap is_asked e | inr e ↦ ap is_asked e ]
+pub is-asked : (s : Session) (old new : SessionPass) (reply : Reply) → EndsWith s old new AskIdr reply → is_idr_request reply ≡ true
+is-asked s old new reply ends = elim ends.answer [ inl e ↦ ap is_idr_request e | inr e ↦ ap is_idr_request e ]
 
 -- ---- the references at a call
 
@@ -127,11 +126,11 @@ own-right (x ∷ xs) ys h all = own-right xs ys h all.1
 -- the front of two passes that were joined is one of each
 pub front-left : (xs both : List SessionCall) (own own' : List (ℕ × List SessionCall)) (h : List SessionCall) → IsPrefix xs both → Front both (own ++ own') h
     → Front xs own h
-front-left xs both own own' h begins is = record { begins = prefix-trans xs both h begins is.begins; own_calls = own-left own own' h is.own_calls }
+front-left xs both own own' h begins is = record { begins = prefix_trans xs both h begins is.begins; own_calls = own-left own own' h is.own_calls }
 
 pub front-right : (xs both : List SessionCall) (own own' : List (ℕ × List SessionCall)) (h : List SessionCall) → IsPrefix xs both → Front both (own ++ own') h
     → Front xs own' h
-front-right xs both own own' h begins is = record { begins = prefix-trans xs both h begins is.begins; own_calls = own-right own own' h is.own_calls }
+front-right xs both own own' h begins is = record { begins = prefix_trans xs both h begins is.begins; own_calls = own-right own own' h is.own_calls }
 
 -- ---- the two passes
 

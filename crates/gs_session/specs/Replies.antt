@@ -16,10 +16,10 @@ use Rattle.gs_session.specs.declared.error.EndedError.TheVariants as ended
 use Rattle.gs_session.specs.Errors.{choose_error, invalid_error, ended_error, with_error}
 
 -- what the references of one thread answer to a call behind this history
-abbrev pub answer_to : List Entry → Call → Reply
-answer_to h (Choose tick) = Chosen (with_error choose_error (choose_answer h (arc_value tick)))
-answer_to h (Invalidate first last) = Taken (with_error invalid_error (invalidate_answer h first last))
-answer_to h AskIdr = Asked (with_error ended_error (ask_answer h))
+abbrev pub session_reply : List Entry → Call → Reply
+session_reply h (Choose tick) = Chosen (with_error choose_error (choose_answer h (arc_value tick)))
+session_reply h (Invalidate first last) = Taken (with_error invalid_error (invalidate_answer h first last))
+session_reply h AskIdr = Asked (with_error ended_error (ask_answer h))
 
 -- the entry that a call adds where the session hasn't ended
 abbrev pub added_by : List Entry → Call → List Entry
@@ -38,24 +38,24 @@ out_of_memory (Invalidate first last) = Taken (Err invalid.OutOfMemory)
 out_of_memory AskIdr = Asked (Err ended.OutOfMemory)
 
 -- which call a reply is to
-abbrev pub is_chosen : Reply → Bool
-is_chosen (Chosen r) = true
-is_chosen (Taken r) = false
-is_chosen (Asked r) = false
+abbrev pub is_choice : Reply → Bool
+is_choice (Chosen r) = true
+is_choice (Taken r) = false
+is_choice (Asked r) = false
 
-abbrev pub is_taken : Reply → Bool
-is_taken (Chosen r) = false
-is_taken (Taken r) = true
-is_taken (Asked r) = false
+abbrev pub is_invalidation : Reply → Bool
+is_invalidation (Chosen r) = false
+is_invalidation (Taken r) = true
+is_invalidation (Asked r) = false
 
-abbrev pub is_asked : Reply → Bool
-is_asked (Chosen r) = false
-is_asked (Taken r) = false
-is_asked (Asked r) = true
+abbrev pub is_idr_request : Reply → Bool
+is_idr_request (Chosen r) = false
+is_idr_request (Taken r) = false
+is_idr_request (Asked r) = true
 
 -- the call was answered by the history, which has its entry then
 pub record IsAnswered (before : List Entry) (call : Call) (reply : Reply) (after : List Entry) : Type 0 where
-  pub answer : reply ≡ answer_to before call
+  pub answer : reply ≡ session_reply before call
   pub history : after ≡ history_after before call
 
 -- there was no memory for its entry, and none was added

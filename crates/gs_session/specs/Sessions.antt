@@ -9,7 +9,7 @@ use Rattle.gs_session.specs.declared.call.Call.{Call}
 use Rattle.gs_session.specs.declared.call.Reply.{Reply}
 use Rattle.gs_session.specs.declared.session.Session.{Session}
 use Rattle.gs_session.specs.declared.pass.SessionPass.{SessionPass}
-use Rattle.gs_session.specs.Replies.{MayReply, answer_to, out_of_memory}
+use Rattle.gs_session.specs.Replies.{MayReply, session_reply, out_of_memory}
 
 -- one call of a session's history, with the number of the pass that made it and its reply
 abbrev pub SessionCall : Type 0
@@ -59,4 +59,4 @@ pub record EndsWith (s : Session) (old new : SessionPass) (call : Call) (reply :
   pub begins : IsPrefix (front old) earlier
   pub before : References
   pub leaves : LeavesRefs s earlier before
-  pub answer : (reply ≡ answer_to before.history call) ⊎ (reply ≡ out_of_memory call)
+  pub answer : (reply ≡ session_reply before.history call) ⊎ (reply ≡ out_of_memory call)

@@ -9,7 +9,7 @@ use Rattle.gs_enet.specs.declared.peer.Peer.{Peer}
 use Rattle.gs_enet.specs.declared.state.PeerState.{PeerState}
 use Rattle.gs_enet.specs.Record.{PeerRecord, given_on, given_count}
 use Rattle.gs_enet.specs.Steps.{is_open, can_send, with_message}
-use Rattle.gs_enet.specs.Standing.{StandsFor as IsPeerOf}
+use Rattle.gs_enet.specs.Standing.{IsPeerOf}
 use Rattle.gs_enet.specs.World.{Side}
 use Rattle.gs_enet.proofs.Kept.{given_on-own, given_on-apart}
 use Rattle.gs_client_core.specs.declared.asker.Owed.{Owed}
@@ -17,7 +17,7 @@ use Rattle.gs_client_core.specs.Owed.{request_channel, owed_message, asked, all_
 use Rattle.gs_sides.specs.declared.side.ControlSide.{ControlSide}
 use Rattle.gs_sides.specs.Known.{HoldsAll, HasRecord}
 use Rattle.gs_sides.specs.Outcomes.{GivesOwed}
-use Rattle.gs_sides.specs.Standing.{StandsFor}
+use Rattle.gs_sides.specs.Standing.{IsSideOf}
 
 -- ---- a record that was given what was owed
 
@@ -77,7 +77,7 @@ owed_known old new owed stays (Ok count) known s = λ none. known (λ r h. none 
 owed_known old new owed stays (Err refused) known s =
     λ none. known (λ r h. let gone = s r h in none (all_asked (take gone.count owed) r) gone.gone.stands)
 
-pub gives_owed : (old new : ControlSide) (x : Side) (owed stays : List Owed) (count number : ℕ) → StandsFor old x
+pub gives_owed : (old new : ControlSide) (x : Side) (owed stays : List Owed) (count number : ℕ) → IsSideOf old x
     → (count ≡ going x.peer owed) × HaveGone x.peer owed stays count new.peer → new.wrote ≡ old.wrote → new.up ≡ old.up
     → new.given ≡ set old.given 1 number → number ≡ get_or old.given 1 0 + count → 1 < length old.given
     → GivesOwed x owed stays count new

@@ -9,7 +9,7 @@ use Rattle.std.proofs.lemmas.List.Elements.{All-get_or}
 use Rattle.std.proofs.lemmas.Option.{slice_get-map, slice_get-get_or, slice_get_within, get_or_from_slice_get}
 use Rattle.gs_enet.specs.World.{Written}
 use Rattle.gs_store.specs.Named.{most_named, is_nameable, named}
-use Rattle.gs_sides.specs.Known.{bytes_by, IsReadAgain}
+use Rattle.gs_sides.specs.Known.{bytes_by, IsReadAsItself}
 
 -- the datagram of that number, of which these are the bytes
 pub record IsNamed (ws : List Written) (k : ℕ) (bytes : List ℕ) : Type 0 where
@@ -17,7 +17,7 @@ pub record IsNamed (ws : List Written) (k : ℕ) (bytes : List ℕ) : Type 0 whe
   pub wrote : Written
   pub there : slice_get ws (k - 1) ≡ Some wrote
   pub bytes_are : bytes_by wrote ≡ bytes
-  pub again : IsReadAgain wrote
+  pub again : IsReadAsItself wrote
 
 same_names : (ws : List Written) (k : ℕ) → is_nameable (map bytes_by ws) k ≡ is_nameable ws k
 same_names ws k = ap (λ (n : ℕ). nat_le 1 k && nat_le k n && nat_lt (n - k) most_named) (length-map ws bytes_by)
@@ -39,7 +39,7 @@ not_named ws k none = by (is_nameable (map bytes_by ws) k) refl none where
       let both = sym some ∙ none in
       absurd (grind arith)
 
-pub is_named : (ws : List Written) (k : ℕ) (bytes : List ℕ) → All IsReadAgain ws → named (map bytes_by ws) k ≡ Some bytes
+pub is_named : (ws : List Written) (k : ℕ) (bytes : List ℕ) → All IsReadAsItself ws → named (map bytes_by ws) k ≡ Some bytes
     → IsNamed ws k bytes
 is_named ws k bytes again some = by (is_nameable (map bytes_by ws) k) refl some where
   found : is_nameable ws k ≡ true → (o : Option Written) → slice_get ws (k - 1) ≡ o → option_map bytes_by o ≡ Some bytes → IsNamed ws k bytes
@@ -50,7 +50,7 @@ is_named ws k bytes again some = by (is_nameable (map bytes_by ws) k) refl some 
         wrote = w;
         there = e;
         bytes_are = grind arith;
-        again = subst IsReadAgain (get_or_from_slice_get ws (k - 1) w w e) (All-get_or IsReadAgain ws (k - 1) w (slice_get_within ws (k - 1) w e) again);
+        again = subst IsReadAsItself (get_or_from_slice_get ws (k - 1) w w e) (All-get_or IsReadAsItself ws (k - 1) w (slice_get_within ws (k - 1) w e) again);
       }
 
   by : (b : Bool) → is_nameable (map bytes_by ws) k ≡ b → cond b (slice_get (map bytes_by ws) (k - 1)) None ≡ Some bytes → IsNamed ws k bytes

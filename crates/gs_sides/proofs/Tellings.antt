@@ -5,12 +5,13 @@ use Rattle.std.proofs.lemmas.List.{append_assoc, append-nil}
 use Rattle.gs_enet.specs.declared.event.PeerEvent.{PeerEvent}
 use Rattle.gs_enet.specs.declared.peer.Peer.{Peer}
 use Rattle.gs_enet.specs.Record.{PeerRecord}
-use Rattle.gs_enet.specs.Standing.{StandsFor as IsPeerOf}
+use Rattle.gs_enet.specs.Standing.{IsPeerOf}
 use Rattle.gs_enet.specs.Steps.{first_event, telling, told_next}
 use Rattle.gs_enet.specs.Outcomes.{TellsNext}
 use Rattle.gs_sides.specs.Known.{HasRecord}
 use Rattle.gs_sides.specs.Openness.{open_after, open_after_all}
 use Rattle.gs_sides.specs.Steps.{TellsEvents}
+use Rattle.gs_sides.proofs.Ups.{after_push}
 
 -- the record once these events are told, and those are left
 abbrev pub having_told : List PeerEvent → List PeerEvent → PeerRecord → PeerRecord
@@ -38,11 +39,6 @@ tells_none p was events none known =
         stands = subst (λ (es : List PeerEvent). IsPeerOf p (record r { told = es; waiting = r.waiting })) (sym (append-nil r.told)) h;
       };
     })
-
-after_push : (was : Bool) (es : List PeerEvent) (e : PeerEvent)
-    → open_after_all was (es ++ e ∷ []) ≡ open_after (open_after_all was es) e
-after_push was [] e = refl
-after_push was (x ∷ xs) e = after_push (open_after was x) xs e
 
 next_known : (now new : Peer) (o : Option PeerEvent) → HasRecord now → ((r : PeerRecord) → IsPeerOf now r → TellsNext r o new) → HasRecord new
 next_known now new o known next = λ none. known (λ r h. none (told_next r) (next r h).stands)

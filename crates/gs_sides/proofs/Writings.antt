@@ -3,21 +3,22 @@ use Rattle.std.proofs.Common.{◌≡◌, ◌≢◌, ◌<◌, ◌≤◌, ◌+◌,
 use Rattle.std.proofs.Common.{◌∙◌, arith, inl, inr}
 use Rattle.std.proofs.Math.Seq.{take-append_seam}
 use Rattle.std.proofs.lemmas.Bool.{cases_lt}
-use Rattle.std.proofs.lemmas.List.{length-drop, length-map, length-append, append-nil}
+use Rattle.std.proofs.lemmas.List.{length-map, length-append, append-nil}
 use Rattle.gs_enet_wire.specs.declared.datagram.Datagram.{Datagram}
-use Rattle.gs_enet_wire.specs.Grammar.{Spells, spelling}
+use Rattle.gs_enet_wire.specs.Grammar.{SpellsDatagram, spelling}
 use Rattle.gs_enet.specs.declared.answer.Answer.{Answer}
 use Rattle.gs_enet.specs.declared.peer.Peer.{Peer}
 use Rattle.gs_enet.specs.declared.state.PeerState.{PeerState}
 use Rattle.gs_enet.specs.Record.{PeerRecord, Unacknowledged, is_shut, at_moment}
-use Rattle.gs_enet.specs.Standing.{StandsFor as IsPeerOf, held_by}
-use Rattle.gs_enet.specs.Write.{Item, Answers, Orders, due_if, going_out, fitting, next_items, having_written, wrote_next, datagram_of, datagram_if}
+use Rattle.gs_enet.specs.Standing.{IsPeerOf, held_by}
+use Rattle.gs_enet.specs.Write.{Item, Answers, Orders, due_if, going_out, fitting, next_items, having_written, wrote_next, items_datagram, datagram_if}
 use Rattle.gs_enet.specs.Outcomes.{WritesDatagram}
 use Rattle.gs_enet.specs.World.{Written, Side, Write, one_written, acted}
-use Rattle.gs_enet.proofs.Outgoing.{having_written-zero, going_out-less}
-use Rattle.gs_sides.specs.Known.{datagram_by, IsReadAgain, HasRecord, IsWritten}
+use Rattle.gs_enet.proofs.Outgoing.{having_written-zero}
+use Rattle.gs_sides.specs.Known.{datagram_by, IsReadAsItself, HasRecord, IsWrittenBytes}
 use Rattle.gs_sides.specs.Steps.{items_due, WritesBytes, WritesSome}
 use Rattle.gs_enet.specs.Sides.{writing_within, written_out}
+use Rattle.gs_enet.proofs.Repeating.{left_after}
 
 -- how many items a side has to write, and how many it writes next
 abbrev left : Side → ℕ
@@ -25,13 +26,6 @@ left x = length (going_out x.peer)
 
 abbrev next : ℕ → Side → List Item
 next now x = next_items (at_moment now x.peer)
-
-left_after : (now : ℕ) (r : PeerRecord)
-    → length (going_out (wrote_next now r)) ≡ length (going_out r) - length (next_items (at_moment now r))
-unfolding wrote_next
-left_after now r =
-    let n : ℕ = length (next_items (at_moment now r)) in
-    ap length (going_out-less n (at_moment now r)) ∙ length-drop n (going_out r)
 
 some_out_by : (xs : List Item) (now : ℕ) (r : PeerRecord) → going_out r ≡ xs → next_items (at_moment now r) ≢ [] → 1 ≤ length (going_out r)
 unfolding next_items
@@ -135,7 +129,7 @@ notes r (x ∷ xs) d e =
       is = same d e;
     }
   where
-    same : (d : Datagram) → Some (datagram_of r (x ∷ xs)) ≡ Some d → datagram_of r (x ∷ xs) ≡ d
+    same : (d : Datagram) → Some (items_datagram r (x ∷ xs)) ≡ Some d → items_datagram r (x ∷ xs) ≡ d
     same d e = grind arith
 
 -- how much is left of a peer
@@ -187,9 +181,9 @@ fewer_due now old new bytes known next = elim (cases_lt (items_due new) (items_d
 
 -- and its bytes are those of a datagram that was written
 pub was_written : (now : ℕ) (old new : Peer) (bytes : List ℕ) → HasRecord old
-    → ((r : PeerRecord) → IsPeerOf old r → WritesBytes r now bytes new) → IsWritten bytes
+    → ((r : PeerRecord) → IsPeerOf old r → WritesBytes r now bytes new) → IsWrittenBytes bytes
 was_written now old new bytes known next = λ none. known (λ r h.
     let w = next r h in
     let noted = notes (at_moment now r) (next_items (at_moment now r)) w.datagram w.is_next in
-    let again : IsReadAgain noted.wrote = subst (λ (d : Datagram). Spells (spelling d) d) (sym noted.is) w.read_again in
+    let again : IsReadAsItself noted.wrote = subst (λ (d : Datagram). SpellsDatagram (spelling d) d) (sym noted.is) w.read_again in
     none noted.wrote (w.bytes_are ∙ ap spelling (sym noted.is)) again)

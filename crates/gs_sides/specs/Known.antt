@@ -2,30 +2,30 @@
 use Rattle.std.specs.Prelude.{◌≡◌, ℕ, List, map}
 use Rattle.std.specs.List.{All}
 use Rattle.gs_enet_wire.specs.declared.datagram.Datagram.{Datagram}
-use Rattle.gs_enet_wire.specs.Grammar.{Spells, spelling}
+use Rattle.gs_enet_wire.specs.Grammar.{SpellsDatagram, spelling}
 use Rattle.gs_enet.specs.declared.peer.Peer.{Peer}
 use Rattle.gs_enet.specs.Record.{PeerRecord}
-use Rattle.gs_enet.specs.Standing.{StandsFor as IsPeerOf}
+use Rattle.gs_enet.specs.Standing.{IsPeerOf}
 use Rattle.gs_enet.specs.World.{Written}
-use Rattle.gs_enet.specs.Write.{datagram_of}
+use Rattle.gs_enet.specs.Write.{items_datagram}
 use Rattle.gs_store.specs.declared.store.Store.{Store}
-use Rattle.gs_store.specs.Standing.{StandsFor as IsStoreOf}
+use Rattle.gs_store.specs.Standing.{IsStoreOf}
 
 -- a datagram that was written, and its bytes
 abbrev pub datagram_by : Written → Datagram
-datagram_by w = datagram_of w.by w.items
+datagram_by w = items_datagram w.by w.items
 
 abbrev pub bytes_by : Written → List ℕ
 bytes_by w = spelling (datagram_by w)
 
 -- its bytes are read as itself
-abbrev pub IsReadAgain : Written → Type 0
-IsReadAgain w = Spells (bytes_by w) (datagram_by w)
+abbrev pub IsReadAsItself : Written → Type 0
+IsReadAsItself w = SpellsDatagram (bytes_by w) (datagram_by w)
 
 -- the store has the bytes of these datagrams
 pub record HoldsAll (store : Store (List ℕ)) (wrote : List Written) : Type 0 where
   pub bytes : IsStoreOf store (map bytes_by wrote)
-  pub read_again : All IsReadAgain wrote
+  pub read_again : All IsReadAsItself wrote
 
 -- there are such a record and such a list: it can't be that none is one
 abbrev pub HasRecord : Peer → Type 0
@@ -33,11 +33,11 @@ HasRecord p = ((r : PeerRecord) → IsPeerOf p r → ⊥) → ⊥
 
 -- bytes that are no datagram at fault
 abbrev pub IsReadable : List ℕ → Type 0
-IsReadable bytes = ((d : Datagram) → Spells bytes d → ⊥) → ⊥
+IsReadable bytes = ((d : Datagram) → SpellsDatagram bytes d → ⊥) → ⊥
 
 -- bytes of a datagram that was written
-abbrev pub IsWritten : List ℕ → Type 0
-IsWritten bytes = ((w : Written) → bytes ≡ bytes_by w → IsReadAgain w → ⊥) → ⊥
+abbrev pub IsWrittenBytes : List ℕ → Type 0
+IsWrittenBytes bytes = ((w : Written) → bytes ≡ bytes_by w → IsReadAsItself w → ⊥) → ⊥
 
 abbrev pub HasList : Store (List ℕ) → Type 0
 HasList store = ((wrote : List Written) → HoldsAll store wrote → ⊥) → ⊥

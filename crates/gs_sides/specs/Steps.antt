@@ -1,15 +1,15 @@
 -- Cited by private contracts alone: what becomes of a peer.
 use Rattle.std.specs.Prelude.{◌≡◌, ◌+◌, ℕ, Bool, false, List, [], ◌∷◌, ◌++◌, length, Option, Some, None}
 use Rattle.gs_enet_wire.specs.declared.datagram.Datagram.{Datagram}
-use Rattle.gs_enet_wire.specs.Grammar.{Spells, spelling}
+use Rattle.gs_enet_wire.specs.Grammar.{SpellsDatagram, spelling}
 use Rattle.gs_enet.specs.declared.event.PeerEvent.{PeerEvent}
 use Rattle.gs_enet.specs.declared.peer.Peer.{Peer}
 use Rattle.gs_enet.specs.Record.{PeerRecord, at_moment, is_shut}
-use Rattle.gs_enet.specs.Standing.{StandsFor as IsPeerOf, held_by}
+use Rattle.gs_enet.specs.Standing.{IsPeerOf, held_by}
 use Rattle.gs_enet.specs.Steps.{is_open}
 use Rattle.gs_enet.specs.Write.{due_if, going_out, next_datagram, wrote_next}
 use Rattle.gs_store.specs.declared.store.Store.{Store}
-use Rattle.gs_store.specs.Standing.{StandsFor as IsStoreOf}
+use Rattle.gs_store.specs.Standing.{IsStoreOf}
 use Rattle.gs_sides.specs.Openness.{open_after_all}
 use Rattle.gs_enet.specs.Sides.{all_told}
 
@@ -26,7 +26,7 @@ pub record WritesBytes (r : PeerRecord) (now : ℕ) (bytes : List ℕ) (new : Pe
   pub is_next : next_datagram now r ≡ Some datagram
   pub stands : IsPeerOf new (wrote_next now r)
   pub bytes_are : bytes ≡ spelling datagram
-  pub read_again : Spells (spelling datagram) datagram
+  pub read_again : SpellsDatagram (spelling datagram) datagram
 
 abbrev pub WritesSome : PeerRecord → ℕ → Option (List ℕ) → Peer → Type 0
 WritesSome r now None new = (going_out (at_moment now r) ≡ []) × IsPeerOf new (wrote_next now r)

@@ -2,11 +2,11 @@
 
 ghost use Rattle.std.specs.Prelude.{IfOk};
 ghost use Rattle.gs_enet.specs.Record.{PeerRecord};
-ghost use Rattle.gs_enet.specs.Standing.{StandsFor as IsPeerOf};
+ghost use Rattle.gs_enet.specs.Standing.{IsPeerOf};
 ghost use Rattle.gs_enet.specs.World.{Side};
 ghost use Rattle.gs_client_core.specs.Owed.{SendsOwed};
 ghost use Rattle.gs_sides.specs.Known.{HasRecord};
-ghost use Rattle.gs_sides.specs.Standing.{StandsFor};
+ghost use Rattle.gs_sides.specs.Standing.{IsSideOf};
 ghost use Rattle.gs_sides.specs.Outcomes.{GivesOwed};
 
 use crate::ControlSide;
@@ -32,7 +32,7 @@ impl ControlSide {
     ///
     /// `OutOfMemory` is answered too where the count of the channel's messages, of 64 bits, is at its end.
     pub fn give_owed(&mut self, asker: &mut Asker) -> Result<u32, OutOfMemory>
-        ensures { IfOk result (λ count. (x : Side) → StandsFor self.old x
+        ensures { IfOk result (λ count. (x : Side) → IsSideOf self.old x
             → GivesOwed x asker.old asker.new count self.new) }
     {
         let count = offer_owed(&mut self.peer, asker)?;

@@ -2,7 +2,7 @@
 
 ghost use Rattle.std.specs.Prelude.{◌≡◌, ◌≤◌, ◌<◌, IfOk, length};
 ghost use Rattle.gs_enet.specs.Record.{PeerRecord};
-ghost use Rattle.gs_enet.specs.Standing.{StandsFor as IsPeerOf};
+ghost use Rattle.gs_enet.specs.Standing.{IsPeerOf};
 ghost use Rattle.gs_enet.specs.Record.{channels, most_message, connecting, accepting, given_count};
 ghost use Rattle.gs_enet.specs.Outcomes.{Sends as IsSent};
 ghost use Rattle.gs_enet.specs.World.{Side, Close, acted};
@@ -67,9 +67,9 @@ fn offer(peer: &mut Peer, channel: u8, bytes: &[u8]) -> Result<u64, SendError>
 }
 
 impl ControlSide {
-    ghost use Rattle.gs_sides.specs.Standing.{StandsFor};
+    ghost use Rattle.gs_sides.specs.Standing.{IsSideOf};
     ghost use Rattle.gs_enet.specs.Sides.{new_side};
-    ghost use Rattle.gs_sides.specs.Outcomes.{Sends};
+    ghost use Rattle.gs_sides.specs.Outcomes.{SideSends};
     ghost use Rattle.gs_enet.specs.Steps.{is_open};
     ghost use Rattle.gs_sides.specs.Steps.{IsNew};
 
@@ -82,7 +82,7 @@ impl ControlSide {
         extra: u32,
         now: u32,
     ) -> Result<ControlSide, OutOfMemory>
-        ensures { IfOk result (λ side. StandsFor side (new_side (connecting own connect_id extra now))) }
+        ensures { IfOk result (λ side. IsSideOf side (new_side (connecting own connect_id extra now))) }
     {
         let peer = Peer::connect(alloc, own, connect_id, extra, now)?;
         ControlSide::of(alloc, peer)
@@ -96,7 +96,7 @@ impl ControlSide {
         connect_id: u32,
         now: u32,
     ) -> Result<ControlSide, OutOfMemory>
-        ensures { IfOk result (λ side. StandsFor side (new_side (accepting own other connect_id now))) }
+        ensures { IfOk result (λ side. IsSideOf side (new_side (accepting own other connect_id now))) }
     {
         let peer = Peer::accept(alloc, own, &request(other, connect_id), now)?;
         ControlSide::of(alloc, peer)
@@ -105,7 +105,7 @@ impl ControlSide {
     /// The side of a new peer.
     fn of(alloc: Global, peer: Peer) -> Result<ControlSide, OutOfMemory>
         requires { HasRecord peer }
-        ensures { IfOk result (λ side. (r : PeerRecord) → IsPeerOf peer r → IsNew r → StandsFor side (new_side r)) }
+        ensures { IfOk result (λ side. (r : PeerRecord) → IsPeerOf peer r → IsNew r → IsSideOf side (new_side r)) }
     {
         Ok(ControlSide {
             alloc,
@@ -118,7 +118,7 @@ impl ControlSide {
 
     /// Whether messages can be given: the connection is up and isn't closed.
     pub fn is_open(&self) -> bool
-        ensures { (x : Side) → StandsFor self.now x → result ≡ is_open x.peer.state }
+        ensures { (x : Side) → IsSideOf self.now x → result ≡ is_open x.peer.state }
     {
         self.up
     }
@@ -126,14 +126,14 @@ impl ControlSide {
     /// How many messages were given on a channel.
     pub fn given(&self, channel: u8) -> u64
         requires { channel < channels }
-        ensures { (x : Side) → StandsFor self.now x → result ≡ given_count x.peer channel }
+        ensures { (x : Side) → IsSideOf self.now x → result ≡ given_count x.peer channel }
     {
         self.given[usize::from(channel)]
     }
 
     /// How many datagrams were written.
     pub fn wrote(&self) -> u64
-        ensures { (x : Side) → StandsFor self.now x → result ≡ length x.wrote }
+        ensures { (x : Side) → IsSideOf self.now x → result ≡ length x.wrote }
     {
         self.wrote.count()
     }
@@ -144,7 +144,7 @@ impl ControlSide {
         requires channel { channel < channels }
         requires some { 1 ≤ length bytes.now }
         requires short { length bytes.now ≤ most_message }
-        ensures { (x : Side) → StandsFor self.old x → Sends x channel bytes.now result self.new }
+        ensures { (x : Side) → IsSideOf self.old x → SideSends x channel bytes.now result self.new }
     {
         match offer(&mut self.peer, channel, bytes) {
             Ok(number) => {
@@ -157,7 +157,7 @@ impl ControlSide {
 
     /// Closes the connection once everything that was sent is acknowledged. Where it isn't up, nothing happens.
     pub fn close(&mut self)
-        ensures { (x : Side) → StandsFor self.old x → StandsFor self.new (acted Close x) }
+        ensures { (x : Side) → IsSideOf self.old x → IsSideOf self.new (acted Close x) }
     {
         self.peer.close();
         self.up = false;

@@ -1,11 +1,11 @@
 //! What comes to a side.
 
 ghost use Rattle.std.specs.Prelude.{IfOk, OnOk};
-ghost use Rattle.gs_enet.specs.Outcomes.{Takes as IsTaken};
+ghost use Rattle.gs_enet.specs.Outcomes.{PeerTakes};
 ghost use Rattle.gs_sides.specs.Known.{HasRecord, IsReadable};
 ghost use Rattle.gs_enet.specs.World.{Side};
-ghost use Rattle.gs_sides.specs.Standing.{StandsFor};
-ghost use Rattle.gs_sides.specs.Outcomes.{Takes};
+ghost use Rattle.gs_sides.specs.Standing.{IsSideOf};
+ghost use Rattle.gs_sides.specs.Outcomes.{SideTakes};
 
 use crate::ControlSide;
 use crate::telling::tell_all;
@@ -17,7 +17,7 @@ fn give(peer: &mut Peer, datagram: &[u8], now: u32) -> Result<(), OutOfMemory>
     requires known { HasRecord peer.old }
     requires readable { IsReadable datagram.now }
     ensures known { HasRecord peer.new }
-    ensures taken { OnOk result (IsTaken datagram.now now peer.old peer.new) }
+    ensures taken { OnOk result (PeerTakes datagram.now now peer.old peer.new) }
 {
     match peer.take(datagram, now) {
         Ok(()) => Ok(()),
@@ -39,8 +39,8 @@ impl ControlSide {
         now: u32,
         events: &mut Vec<PeerEvent>,
     ) -> Result<bool, OutOfMemory>
-        ensures { IfOk result (λ took. (x y : Side) → StandsFor self.old x → StandsFor other.now y
-            → Takes x y number now took events.new.items self.new) }
+        ensures { IfOk result (λ took. (x y : Side) → IsSideOf self.old x → IsSideOf other.now y
+            → SideTakes x y number now took events.new.items self.new) }
     {
         let Some(datagram) = other.wrote.get(number) else {
             return Ok(false);

@@ -2,13 +2,13 @@
 
 ghost use Rattle.std.specs.Prelude.{◌≡◌, IfOk, OnOk};
 ghost use Rattle.gs_enet.specs.Record.{PeerRecord};
-ghost use Rattle.gs_enet.specs.Standing.{StandsFor as IsPeerOf};
+ghost use Rattle.gs_enet.specs.Standing.{IsPeerOf};
 ghost use Rattle.gs_enet.specs.World.{Side, Time, acted};
 ghost use Rattle.gs_sides.specs.Known.{HasRecord};
 ghost use Rattle.gs_sides.specs.Openness.{open_after};
 ghost use Rattle.gs_sides.specs.Steps.{TellsEvents};
-ghost use Rattle.gs_sides.specs.Standing.{StandsFor};
-ghost use Rattle.gs_sides.specs.Outcomes.{TellsAll};
+ghost use Rattle.gs_sides.specs.Standing.{IsSideOf};
+ghost use Rattle.gs_sides.specs.Outcomes.{SideTellsAll};
 
 use crate::ControlSide;
 use gs_bytes::OutOfMemory;
@@ -51,8 +51,8 @@ impl ControlSide {
     /// ends the connection. The events that arise are told, in order, in place of what the vector held; after an error
     /// some of them.
     pub fn timer(&mut self, now: u32, events: &mut Vec<PeerEvent>) -> Result<(), OutOfMemory>
-        ensures { OnOk result ((x : Side) → StandsFor self.old x
-            → TellsAll (acted (Time now) x) events.new.items self.new) }
+        ensures { OnOk result ((x : Side) → IsSideOf self.old x
+            → SideTellsAll (acted (Time now) x) events.new.items self.new) }
     {
         self.peer.timer(now);
         self.up = tell_all(&mut self.peer, self.up, events)?;

@@ -3,7 +3,7 @@ use Rattle.std.proofs.Common.{◌≡◌, ◌<◌, ◌≤◌, ℕ, zero, suc, Boo
 use Rattle.std.specs.Prelude.{nat_lt, nat_le, slice_index, ◌==◌, ◌||◌, true, false, if◌then◌else◌}
 use Rattle.std.specs.List.{All}
 use Rattle.std.proofs.lemmas.List.Elements.{All-from_recursion, All-head, All-tail, All-map, All-same, All-weaker}
-use Rattle.std.proofs.lemmas.Bool.{cases_Bool, cond-true, cond-false, and_parts, ltb-true, ne_eqb}
+use Rattle.std.proofs.lemmas.Bool.{cases_Bool, cond-true, cond-false, and_parts, ltb-true, ne_eqb, or_right}
 use Rattle.gs_frames.specs.Image.{ceil_div, most_packets}
 use Rattle.gs_frames.specs.Plan.{BlockPlan, most_shards, most_blocks, has_parity, block_count, parts, with_parity, without_parity, fec_plan}
 use Rattle.gs_frames.proofs.Plans.{data_shards-are}
@@ -56,13 +56,9 @@ protected-with percentage minimum d least some =
     ap (λ (b : Bool). b || percentage == 0) data_shards ∙ ap (λ (b : Bool). false || b) parity in
     cond-false (d == 0 || percentage == 0) (without_parity d) (with_parity percentage minimum d) test
 
-or_true : (b : Bool) → (b || true) ≡ true
-or_true true = refl
-or_true false = refl
-
 protected-without : (minimum d : ℕ) → protected 0 minimum d ≡ without_parity d
 protected-without minimum d =
-    cond-true (d == 0 || 0 == 0) (without_parity d) (with_parity 0 minimum d) (or_true (d == 0))
+    cond-true (d == 0 || 0 == 0) (without_parity d) (with_parity 0 minimum d) (or_right (d == 0) true refl)
 
 map-protected-without : (minimum : ℕ) (ds : List ℕ) → map (protected 0 minimum) ds ≡ map without_parity ds
 map-protected-without minimum [] = refl

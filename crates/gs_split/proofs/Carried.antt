@@ -5,7 +5,7 @@ use Rattle.std.specs.Prelude.{nat_lt, nat_le, option_map}
 use Rattle.std.specs.List.{slice_get, range_with_len}
 use Rattle.std.proofs.Math.Seq.{take-append-add, take-append_seam, drop-append-add, drop-append_seam}
 use Rattle.std.proofs.lemmas.Bool.{cases_Bool, cond-true, cond-false, and_parts, ltb-true}
-use Rattle.std.proofs.lemmas.List.{length-drop, length-take-le, length-map, map-append}
+use Rattle.std.proofs.lemmas.List.{length-drop, length-take-le, length-map, map-append, drop-drop}
 use Rattle.std.proofs.lemmas.List.Elements.{All-nil, All-append, All-map}
 use Rattle.std.proofs.lemmas.List.FromFn.{length-map-range_with_len}
 use Rattle.std.proofs.lemmas.Nat.{mul-le}
@@ -22,7 +22,7 @@ use Rattle.gs_frames.specs.Image.{ceil_div, frame_image, packets}
 use Rattle.gs_frames.specs.Plan.{BlockPlan, most_shards, most_blocks}
 use Rattle.gs_frames.specs.Received.{Received}
 use Rattle.gs_frames.specs.Shards.{CoveredHeader, covered_header, read_covered, payload_of, packet_header, block_shards}
-use Rattle.gs_frames.specs.Datagrams.{Place, next_block, datagram_of, shard_head, headed_shard, headed_shards, headed_blocks, plan_of, first_place}
+use Rattle.gs_frames.specs.Datagrams.{Place, next_block, datagram_of, shard_head, headed_shard, headed_shards, headed_blocks, unit_plan, first_place}
 use Rattle.gs_frames.specs.Datagrams.{frame_shards, frame_datagrams}
 use Rattle.gs_frames.proofs.FramesReceived.{place_at, data_total, data_total-cons}
 use Rattle.gs_frames.proofs.Images.{length-frame_image}
@@ -33,9 +33,9 @@ use Rattle.gs_split.specs.declared.placed.PlacedBlock.{PlacedBlock}
 use Rattle.gs_split.specs.Plans.{blocks_of}
 use Rattle.gs_split.specs.Places.{packets_before, datagrams_before, placed_plan, IsPlaced}
 use Rattle.gs_split.specs.Splitting.{KeepsShards, has_parity_at}
-use Rattle.gs_split.specs.Loaded.{IsPlanned, outgoing, place_of, data_shard_at, block_data, shards_of_block}
+use Rattle.gs_split.specs.Loaded.{IsPlanned, loaded_outgoing, place_of, data_shard_at, block_data, placed_shards}
 use Rattle.gs_split.proofs.Places.{length-blocks_of}
-use Rattle.gs_rs.proofs.LaidShards.{HaveSize, drop-twice, laid-at, take-inside}
+use Rattle.gs_rs.proofs.LaidShards.{HaveSize, laid-at, take-inside}
 use Rattle.gs_split.proofs.DataShards.{length-block_data, block_data-at, data_shards-sizes}
 use Rattle.gs_split.proofs.FrameShards.{blocks-at, length-block_shards, shards-of_headed}
 use Rattle.gs_split.proofs.WrittenFrames.{plan-is_of}
@@ -75,7 +75,7 @@ covered-read h rest fits =
 
 -- a data shard is among its block's
 pub data_shard-of_block : (s : StreamSettings) (f : LoadedFrame) (b : PlacedBlock) (unit : List ℕ) (index : ℕ) → index < b.shards
-    → slice_get (shards_of_block s f b unit) index ≡ Some (data_shard_at s f b unit index)
+    → slice_get (placed_shards s f b unit) index ≡ Some (data_shard_at s f b unit index)
 data_shard-of_block s f b unit index within =
     let shards = block_data s f b unit in
     let in_shards : index < length shards = omega (arith, length-block_data s f b unit) in
@@ -118,22 +118,22 @@ frame-sizes s place count (plan ∷ plans) image least room =
 
 pub shards-sized : (s : StreamSettings) (f : LoadedFrame) (unit : List ℕ) → IsPlanned s f → length unit ≡ f.unit_length → 17 ≤ s.packet
     → data_total (blocks_of f.plan) ≡ packets f.unit_length (payload_of s)
-    → HaveSize s.packet (map (λ r. r.shard) (frame_shards s (outgoing f unit)))
+    → HaveSize s.packet (map (λ r. r.shard) (frame_shards s (loaded_outgoing f unit)))
 unfolding frame_shards
 shards-sized s f unit planned unit_is least total =
     let size = payload_of s in
     let image = frame_image f.kind unit size in
-    let plans = plan_of s unit in
+    let plans = unit_plan s unit in
     let all : data_total plans ≡ packets (length unit) size =
     ap data_total (plan-is_of s f unit planned unit_is) ∙ total ∙ ap (λ (n : ℕ). packets n size) (sym unit_is) in
     let room : data_total plans * size ≡ length image = ap (λ (n : ℕ). n * size) all ∙ sym (length-frame_image f.kind unit size (omega arith)) in
-    frame-sizes s (first_place (outgoing f unit) plans) f.count plans image least (omega (arith, room))
+    frame-sizes s (first_place (loaded_outgoing f unit) plans) f.count plans image least (omega (arith, room))
 
 -- the one of a number is that of its block
 pub frame-at : (s : StreamSettings) (f : LoadedFrame) (b : PlacedBlock) (unit : List ℕ) (index k : ℕ) (shard : List ℕ) → IsPlanned s f
     → IsPlaced (blocks_of f.plan) b → length unit ≡ f.unit_length → k ≡ b.first_datagram + index
-    → slice_get (shards_of_block s f b unit) index ≡ Some shard
-    → slice_get (frame_shards s (outgoing f unit)) k ≡ Some (headed_shard s (place_of f b) (placed_plan b) (f.count + k) index shard)
+    → slice_get (placed_shards s f b unit) index ≡ Some shard
+    → slice_get (frame_shards s (loaded_outgoing f unit)) k ≡ Some (headed_shard s (place_of f b) (placed_plan b) (f.count + k) index shard)
 unfolding frame_shards
 frame-at s f b unit index k shard planned placed unit_is k_is shard_is =
     let plans = blocks_of f.plan in
@@ -146,20 +146,20 @@ frame-at s f b unit index k shard planned placed unit_is k_is shard_is =
     ∙ ap (λ (n : ℕ). slice_get (block_shards s (placed_plan b) (f.count + b.first_datagram) (drop (n * payload_of s) image)) index) (sym placed.packets)
     ∙ shard_is in
     let number : k ≡ datagrams_before b.number plans + index = omega (arith, k_is, placed.datagrams) in
-    ap (λ (l : List BlockPlan). slice_get (headed_blocks s (first_place (outgoing f unit) l) f.count l image) k) (plan-is_of s f unit planned unit_is)
+    ap (λ (l : List BlockPlan). slice_get (headed_blocks s (first_place (loaded_outgoing f unit) l) f.count l image) k) (plan-is_of s f unit planned unit_is)
     ∙ blocks-at s f.frame f.time (length plans - 1) 0 f.count plans image b.number b.number (placed_plan b) index k shard (omega arith) number placed.here here
     ∙ ap (λ (n : ℕ). Some (headed_shard s (place_at f.frame f.time n b.number) (placed_plan b) (f.count + k) index shard)) last
 
 -- so its datagram is
 pub datagram-at : (s : StreamSettings) (f : LoadedFrame) (b : PlacedBlock) (unit : List ℕ) (index k : ℕ) (shard : List ℕ) (head : VideoHead)
     (payload : List ℕ) → IsPlanned s f → IsPlaced (blocks_of f.plan) b → length unit ≡ f.unit_length → k ≡ b.first_datagram + index
-    → slice_get (shards_of_block s f b unit) index ≡ Some shard
+    → slice_get (placed_shards s f b unit) index ≡ Some shard
     → head ≡ shard_head s (place_of f b) (placed_plan b) (f.count + b.first_datagram + index) index shard → payload ≡ drop packet_header shard
-    → slice_get (frame_datagrams s (outgoing f unit)) k ≡ Some (video_header head ++ payload)
+    → slice_get (frame_datagrams s (loaded_outgoing f unit)) k ≡ Some (video_header head ++ payload)
 unfolding frame_datagrams
 datagram-at s f b unit index k shard head payload planned placed unit_is k_is shard_is head_is payload_is =
     let count : f.count + k ≡ f.count + b.first_datagram + index = omega arith in
-    slice_get-map datagram_of (frame_shards s (outgoing f unit)) k
+    slice_get-map datagram_of (frame_shards s (loaded_outgoing f unit)) k
     ∙ ap (option_map datagram_of) (frame-at s f b unit index k shard planned placed unit_is k_is shard_is)
     ∙ ap (λ (n : ℕ). Some (video_header (shard_head s (place_of f b) (placed_plan b) n index shard) ++ drop packet_header shard)) count
     ∙ ap (λ (h : VideoHead). Some (video_header h ++ drop packet_header shard)) (sym head_is)
@@ -168,14 +168,14 @@ datagram-at s f b unit index k shard head payload planned placed unit_is k_is sh
 -- the kept shard of a number
 pub kept-at : (s : StreamSettings) (f : LoadedFrame) (b : PlacedBlock) (unit kept : List ℕ) (index k : ℕ) → IsPlanned s f
     → IsPlaced (blocks_of f.plan) b → length unit ≡ f.unit_length → 17 ≤ s.packet
-    → data_total (blocks_of f.plan) ≡ packets f.unit_length (payload_of s) → KeepsShards s (outgoing f unit) kept
+    → data_total (blocks_of f.plan) ≡ packets f.unit_length (payload_of s) → KeepsShards s (loaded_outgoing f unit) kept
     → k ≡ b.first_datagram + index → index < b.shards + b.parity
-    → slice_get (shards_of_block s f b unit) index ≡ Some (take s.packet (drop (k * s.packet) kept))
+    → slice_get (placed_shards s f b unit) index ≡ Some (take s.packet (drop (k * s.packet) kept))
 kept-at s f b unit kept index k planned placed unit_is least total keeps k_is within =
     let size = s.packet in
-    let all = frame_shards s (outgoing f unit) in
+    let all = frame_shards s (loaded_outgoing f unit) in
     let shards = map (λ (r : Received). r.shard) all in
-    let block = shards_of_block s f b unit in
+    let block = placed_shards s f b unit in
     let in_block : index < length block =
     omega (
       arith,
@@ -231,5 +231,5 @@ datagram-written h out payload new size end k end_is least room k_is long new_is
           ∙ ap (λ (l : List ℕ). header ++ l) (take-append_seam payload post),
       ap (drop end) is ∙ ap (λ (n : ℕ). drop n (header ++ (payload ++ post))) split
           ∙ drop-append-add header (payload ++ post) (length payload)
-          ∙ drop-append_seam payload post ∙ drop-twice k 32 out ∙ ap (λ (n : ℕ). drop n out) whole,
+          ∙ drop-append_seam payload post ∙ drop-drop k 32 out ∙ ap (λ (n : ℕ). drop n out) whole,
     )

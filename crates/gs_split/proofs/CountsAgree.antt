@@ -8,7 +8,7 @@ use Rattle.gs_frames.specs.Image.{frame_image}
 use Rattle.gs_frames.specs.Plan.{BlockPlan}
 use Rattle.gs_frames.specs.Shards.{payload_of, flags, data_shard, data_shards_from, shares, block_shards}
 use Rattle.gs_frames.specs.Received.{Received}
-use Rattle.gs_frames.specs.Datagrams.{Place, next_block, headed_shard, headed_shards, headed_blocks, datagram_of, plan_of, first_place, OutgoingFrame}
+use Rattle.gs_frames.specs.Datagrams.{Place, next_block, headed_shard, headed_shards, headed_blocks, datagram_of, unit_plan, first_place, OutgoingFrame}
 use Rattle.gs_frames.specs.Datagrams.{frame_shards, frame_datagrams}
 use Rattle.gs_split.specs.Splitting.{frame_behind, KeepsShards}
 
@@ -71,7 +71,7 @@ pub frame_shards-agree : (s : StreamSettings) (m n frame kind time : ℕ) (unit 
     → frame_shards s (frame_behind m frame kind time unit) ≡ frame_shards s (frame_behind n frame kind time unit)
 unfolding frame_shards
 frame_shards-agree s m n frame kind time unit same =
-    headed_blocks-agree s (first_place (frame_behind n frame kind time unit) (plan_of s unit)) m n (plan_of s unit)
+    headed_blocks-agree s (first_place (frame_behind n frame kind time unit) (unit_plan s unit)) m n (unit_plan s unit)
     (frame_image kind unit (payload_of s)) same
 
 -- of frames that agree in all else

@@ -1,16 +1,16 @@
 -- The data shards of a block, one by one.
-use Rattle.std.proofs.Common.{◌≡◌, ◌<◌, ◌≤◌, ◌+◌, ◌*◌, ℕ, zero, suc, List, [], ◌∷◌, length, get_or, take, drop, refl, ap, ◌∙◌, arith}
-use Rattle.std.proofs.lemmas.List.{length-drop, length-take-le, get_or_default}
+use Rattle.std.proofs.Common.{◌≡◌, ◌<◌, ◌≤◌, ◌+◌, ◌*◌, ℕ, zero, suc, List, [], ◌∷◌, length, get_or, take, drop, ap, ◌∙◌, arith}
+use Rattle.std.proofs.lemmas.List.{length-drop, length-take-le, get_or_default, drop-drop}
 use Rattle.std.proofs.lemmas.Nat.{mul-le}
 use Rattle.gs_rtp.specs.Stream.{StreamSettings}
 use Rattle.gs_frames.specs.Image.{frame_image, packets}
 use Rattle.gs_frames.specs.Shards.{payload_of, flags, shares, data_shard, data_shards_from}
 use Rattle.gs_frames.proofs.Images.{length-frame_image}
-use Rattle.gs_frames.proofs.ShardForms.{length-shares}
+use Rattle.gs_frames.proofs.ShardForms.{length-data_shards_from, length-shares}
 use Rattle.gs_split.specs.declared.frame.LoadedFrame.{LoadedFrame}
 use Rattle.gs_split.specs.declared.placed.PlacedBlock.{PlacedBlock}
 use Rattle.gs_split.specs.Loaded.{block_image, block_data, data_shard_at}
-use Rattle.gs_rs.proofs.LaidShards.{HaveSize, drop-twice}
+use Rattle.gs_rs.proofs.LaidShards.{HaveSize}
 
 -- ---- shares of an image
 
@@ -22,14 +22,10 @@ share-at (suc n) size bytes zero within =
 share-at (suc n) size bytes (suc i) within =
     let more : size + i * size ≡ suc i * size = omega arith in
     share-at n size (drop size bytes) i (omega arith)
-    ∙ ap (take size) (drop-twice (i * size) size bytes)
+    ∙ ap (take size) (drop-drop (i * size) size bytes)
     ∙ ap (λ (k : ℕ). take size (drop k bytes)) more
 
 -- ---- data shards of payloads
-
-pub length-data_shards_from : (d i count : ℕ) (payloads : List (List ℕ)) → length (data_shards_from d i count payloads) ≡ length payloads
-length-data_shards_from d i count [] = refl
-length-data_shards_from d i count (payload ∷ payloads) = ap (λ (k : ℕ). suc k) (length-data_shards_from d (i + 1) (count + 1) payloads)
 
 data_shard-from : (d i count : ℕ) (payloads : List (List ℕ)) (j : ℕ) → j < length payloads
     → get_or (data_shards_from d i count payloads) j [] ≡ data_shard (count + j) (flags d (i + j)) (get_or payloads j [])

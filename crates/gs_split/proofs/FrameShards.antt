@@ -1,7 +1,7 @@
 -- The shards of a frame, block after block.
 use Rattle.std.proofs.Common.{◌≡◌, ◌<◌, ◌+◌, ◌*◌, ℕ, zero, suc, List, [], ◌∷◌, ◌++◌, length, drop, map, Some, refl, sym, ap, ◌∙◌, arith}
 use Rattle.std.specs.List.{concat, slice_get}
-use Rattle.std.proofs.lemmas.List.{length-append, append-nil, append_assoc, map-append}
+use Rattle.std.proofs.lemmas.List.{length-append, append-nil, append_assoc, map-append, drop-drop}
 use Rattle.std.proofs.lemmas.List.Folds.{concat-append}
 use Rattle.std.proofs.lemmas.List.FromFn.{length-map-range_with_len}
 use Rattle.std.proofs.lemmas.Option.{slice_get_within}
@@ -14,10 +14,9 @@ use Rattle.gs_frames.specs.Shards.{payload_of, shares, block_shards}
 use Rattle.gs_frames.specs.Received.{Received}
 use Rattle.gs_frames.specs.Datagrams.{Place, next_block, headed_shard, headed_shards, headed_blocks}
 use Rattle.gs_frames.proofs.FramesReceived.{place_at}
-use Rattle.gs_frames.proofs.ShardForms.{length-shares, data_shards_of}
+use Rattle.gs_frames.proofs.ShardForms.{length-shares, data_shards_of, length-data_shards_from}
+use Rattle.gs_frames.proofs.OneBlock.{length-headed_shards}
 use Rattle.gs_split.specs.Places.{packets_before, datagrams_before}
-use Rattle.gs_rs.proofs.LaidShards.{drop-twice}
-use Rattle.gs_split.proofs.DataShards.{length-data_shards_from}
 
 -- ---- one block
 
@@ -40,11 +39,6 @@ pub shards-of_headed : (s : StreamSettings) (place : Place) (plan : BlockPlan) (
 shards-of_headed s place plan count index [] = refl
 shards-of_headed s place plan count index (shard ∷ shards) =
     ap (λ (l : List (List ℕ)). shard ∷ l) (shards-of_headed s place plan (count + 1) (index + 1) shards)
-
-pub length-headed : (s : StreamSettings) (place : Place) (plan : BlockPlan) (count index : ℕ) (shards : List (List ℕ))
-    → length (headed_shards s place plan count index shards) ≡ length shards
-length-headed s place plan count index [] = refl
-length-headed s place plan count index (shard ∷ shards) = ap (λ (k : ℕ). suc k) (length-headed s place plan (count + 1) (index + 1) shards)
 
 -- each has its place
 headed-at : (s : StreamSettings) (place : Place) (plan : BlockPlan) (count index : ℕ) (shards : List (List ℕ)) (i : ℕ) (shard : List ℕ)
@@ -77,7 +71,7 @@ length-blocks s place count (plan ∷ plans) image =
     omega (
       arith,
       length-append (headed_shards s place plan count 0 shards) (headed_blocks s (next_block place) more plans left),
-      length-headed s place plan count 0 shards,
+      length-headed_shards s place plan count 0 shards,
       length-block_shards s plan count image,
       length-blocks s (next_block place) more plans left,
     )
@@ -112,7 +106,7 @@ blocks-at s frame time last block count (first ∷ plans) image zero at plan ind
     ∙ ap (λ (m : ℕ). slice_get (block_shards s plan m image) index) number
     ∙ ap (λ (m : ℕ). slice_get (block_shards s plan (count + 0) (drop m image)) index) none
     ∙ shard_is in
-    let within : index < length these = omega (arith, length-headed s place first count 0 shards, slice_get_within shards index shard is) in
+    let within : index < length these = omega (arith, length-headed_shards s place first count 0 shards, slice_get_within shards index shard is) in
     ap (slice_get (these ++ rest)) n_index
     ∙ slice_get-append_left these rest index within
     ∙ headed-at s place first count 0 shards index shard is
@@ -134,10 +128,10 @@ blocks-at s frame time last block count (first ∷ plans) image (suc b) at plan 
     let is : slice_get (block_shards s plan (more + datagrams_before b plans) (drop (packets_before b plans * size) left)) index ≡ Some shard =
     ap (λ (k : ℕ). slice_get (block_shards s plan k (drop (packets_before b plans * size) left)) index) number
     ∙ ap (λ (l : List ℕ). slice_get (block_shards s plan (count + (first.data_shards + first.parity_shards + datagrams_before b plans)) l) index)
-    (drop-twice (packets_before b plans * size) (first.data_shards * size) image)
+    (drop-drop (packets_before b plans * size) (first.data_shards * size) image)
     ∙ ap (λ (k : ℕ). slice_get (block_shards s plan (count + (first.data_shards + first.parity_shards + datagrams_before b plans)) (drop k image)) index) bytes
     ∙ shard_is in
-    let behind : n ≡ length these + m = omega (arith, length-headed s place first count 0 shards, length-block_shards s first count image) in
+    let behind : n ≡ length these + m = omega (arith, length-headed_shards s place first count 0 shards, length-block_shards s first count image) in
     let count_is : more + m ≡ count + n = omega arith in
     slice_get-append_right these rest n m behind
     ∙ blocks-at s frame time last (block + 1) more plans left b at plan index m shard (omega arith) refl e is
@@ -180,7 +174,7 @@ laid-next s (suc b) count (first ∷ plans) plan image e =
     ∙ ap (λ (n : ℕ). front ++ laid s b more plans left ++ concat (block_shards s plan n (drop (packets_before b plans * size) left))) number
     ∙ ap (λ (l : List ℕ). front ++ laid s b more plans left
     ++ concat (block_shards s plan (count + (first.data_shards + first.parity_shards + datagrams_before b plans)) l))
-    (drop-twice (packets_before b plans * size) (first.data_shards * size) image)
+    (drop-drop (packets_before b plans * size) (first.data_shards * size) image)
     ∙ ap (λ (n : ℕ). front ++ laid s b more plans left
     ++ concat (block_shards s plan (count + (first.data_shards + first.parity_shards + datagrams_before b plans)) (drop n image))) bytes
 

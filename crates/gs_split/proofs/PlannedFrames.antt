@@ -197,3 +197,8 @@ is_block_of_frame s f b limits planned placed =
       coded = λ parity. of_all (λ p. p.data_shards + p.parity_shards ≤ 255) plans b.number plan (planned-coded s f limits planned parity) placed.here;
       end = omega (arith, end-is plans b placed, datagrams_before-le (suc b.number) f.plan.blocks plans number, planned.datagrams);
     }
+
+-- the same, of settings that were built
+pub facts_of : (settings : Settings) (f : LoadedFrame) (b : PlacedBlock) → IsPlanned (numbers_of settings) f → IsPlaced (blocks_of f.plan) b
+    → IsBlockOfFrame (numbers_of settings) f b
+facts_of settings f b planned placed = is_block_of_frame (numbers_of settings) f b (limits_of settings) planned placed

@@ -15,7 +15,7 @@ use Rattle.gs_frames.proofs.ShardForms.{frame_image-bytes, are_data_shards}
 use Rattle.gs_split.specs.declared.frame.LoadedFrame.{LoadedFrame}
 use Rattle.gs_split.specs.declared.placed.PlacedBlock.{PlacedBlock}
 use Rattle.gs_split.specs.Places.{placed_plan}
-use Rattle.gs_split.specs.Loaded.{block_image, block_data, shards_of_block}
+use Rattle.gs_split.specs.Loaded.{block_image, block_data, placed_shards}
 use Rattle.gs_rs.proofs.LaidShards.{block-is}
 use Rattle.gs_split.proofs.DataShards.{block_image-room}
 
@@ -30,7 +30,7 @@ pub written-block : (s : StreamSettings) (f : LoadedFrame) (b : PlacedBlock) (un
     → 17 ≤ s.packet → 1 ≤ b.shards → b.shards + b.parity ≤ 255 → IsWrittenKind f.kind → All IsByte unit
     → b.first_packet + b.shards ≤ packets (length unit) (payload_of s) → code ≡ video_code b.shards b.parity → size ≡ s.packet
     → written ≡ concat (block_data s f b unit) → IsBlock code size (written ++ parity)
-    → written ++ parity ≡ concat (shards_of_block s f b unit)
+    → written ++ parity ≡ concat (placed_shards s f b unit)
 written-block s f b unit code size written parity least some few kind bytes within code_is size_is written_is block =
     let shape = video_code b.shards b.parity in
     let shards = block_data s f b unit in

@@ -8,12 +8,12 @@ use Rattle.gs_rtp.specs.Stream.{StreamSettings}
 use Rattle.gs_frames.specs.Image.{frame_image, packets}
 use Rattle.gs_frames.specs.Plan.{BlockPlan, fec_plan}
 use Rattle.gs_frames.specs.Shards.{payload_of, block_shards}
-use Rattle.gs_frames.specs.Datagrams.{datagram_of, plan_of, first_place, OutgoingFrame, frame_shards, frame_datagrams}
+use Rattle.gs_frames.specs.Datagrams.{datagram_of, unit_plan, first_place, OutgoingFrame, frame_shards, frame_datagrams}
 use Rattle.gs_split.specs.declared.frame.LoadedFrame.{LoadedFrame}
 use Rattle.gs_split.specs.declared.placed.PlacedBlock.{PlacedBlock}
 use Rattle.gs_split.specs.Plans.{blocks_of}
 use Rattle.gs_split.specs.Places.{packets_before, datagrams_before, placed_plan, block_end, IsPlaced}
-use Rattle.gs_split.specs.Loaded.{IsPlanned, outgoing, shards_of_block}
+use Rattle.gs_split.specs.Loaded.{IsPlanned, loaded_outgoing, placed_shards}
 use Rattle.gs_split.proofs.Places.{length-blocks_of, end-is}
 use Rattle.gs_split.proofs.FrameShards.{laid, laid-next, laid-all, length-blocks}
 
@@ -31,7 +31,7 @@ pub laid-block : (s : StreamSettings) (f : LoadedFrame) (b : PlacedBlock) (unit 
     → IsPlaced (blocks_of f.plan) b → b.number ≡ number → next ≡ number + 1 → p ≡ s.packet → block_end b * p ≤ length out
     → take (datagrams_before number (blocks_of f.plan) * s.packet) out
     ≡ laid s number f.count (blocks_of f.plan) (frame_image f.kind unit (payload_of s))
-    → new ≡ concat (shards_of_block s f b unit) → length new ≡ (b.shards + b.parity) * s.packet
+    → new ≡ concat (placed_shards s f b unit) → length new ≡ (b.shards + b.parity) * s.packet
     → take (datagrams_before next (blocks_of f.plan) * s.packet) (put_mid (b.first_datagram * p) k out new)
     ≡ laid s next f.count (blocks_of f.plan) (frame_image f.kind unit (payload_of s))
 laid-block s f b unit number next k p out new placed number_is next_is p_is room before new_is long =
@@ -65,27 +65,27 @@ laid-block s f b unit number next k p out new placed number_is next_is p_is room
 -- ---- the whole frame
 
 -- the plan is that of its unit
-pub plan-is_of : (s : StreamSettings) (f : LoadedFrame) (unit : List ℕ) → IsPlanned s f → length unit ≡ f.unit_length → plan_of s unit ≡ blocks_of f.plan
+pub plan-is_of : (s : StreamSettings) (f : LoadedFrame) (unit : List ℕ) → IsPlanned s f → length unit ≡ f.unit_length → unit_plan s unit ≡ blocks_of f.plan
 plan-is_of s f unit planned unit_is =
     ap (λ (n : ℕ). fec_plan (packets n (payload_of s)) s.percentage s.minimum) unit_is ∙ sym planned.blocks
 
 pub frame-laid : (s : StreamSettings) (f : LoadedFrame) (unit : List ℕ) → IsPlanned s f → length unit ≡ f.unit_length
     → laid s f.plan.blocks f.count (blocks_of f.plan) (frame_image f.kind unit (payload_of s))
-    ≡ concat (map (λ r. r.shard) (frame_shards s (outgoing f unit)))
+    ≡ concat (map (λ r. r.shard) (frame_shards s (loaded_outgoing f unit)))
 unfolding frame_shards
 frame-laid s f unit planned unit_is =
     let plans = blocks_of f.plan in
     let image = frame_image f.kind unit (payload_of s) in
     ap (λ (n : ℕ). laid s n f.count plans image) (sym (length-blocks_of f.plan))
     ∙ ap (λ (l : List BlockPlan). laid s (length l) f.count l image) (sym (plan-is_of s f unit planned unit_is))
-    ∙ laid-all s (first_place (outgoing f unit) (plan_of s unit)) f.count (plan_of s unit) image
+    ∙ laid-all s (first_place (loaded_outgoing f unit) (unit_plan s unit)) f.count (unit_plan s unit) image
 
 -- any frame with a unit of this length has as many shards, and as many datagrams
 pub frame-length : (s : StreamSettings) (f : LoadedFrame) (out : OutgoingFrame) → IsPlanned s f → length out.unit ≡ f.unit_length
     → length (frame_shards s out) ≡ f.datagrams
 unfolding frame_shards
 frame-length s f out planned unit_is =
-    length-blocks s (first_place out (plan_of s out.unit)) out.count (plan_of s out.unit) (frame_image out.kind out.unit (payload_of s))
+    length-blocks s (first_place out (unit_plan s out.unit)) out.count (unit_plan s out.unit) (frame_image out.kind out.unit (payload_of s))
     ∙ ap (λ (l : List BlockPlan). datagrams_before (length l) l) (plan-is_of s f out.unit planned unit_is)
     ∙ ap (λ (n : ℕ). datagrams_before n (blocks_of f.plan)) (length-blocks_of f.plan)
     ∙ sym planned.datagrams

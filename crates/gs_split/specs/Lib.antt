@@ -1,4 +1,4 @@
 pub mod Plans
 pub mod Places
-pub mod Loaded
 pub mod Splitting
+pub mod Loaded

@@ -3,7 +3,7 @@ use Rattle.std.specs.Prelude.{ℕ, ◌≡◌, ◌≤◌, ◌<◌, ◌+◌, ◌-�
 use Rattle.std.specs.Prelude.{if◌then◌else◌}
 use Rattle.std.specs.List.{slice_get}
 use Rattle.gs_bytes.specs.Limits.{most_unit}
-use Rattle.gs_rtp.specs.Limits.{most_frame}
+use Rattle.gs_rtp.specs.Limits.{most_blocks, most_frame, most_shards_of_code}
 use Rattle.gs_rtp.specs.Stream.{StreamSettings}
 use Rattle.gs_frames.specs.Image.{frame_image, packets}
 use Rattle.gs_frames.specs.ImageLaws.{IsWrittenKind}
@@ -22,8 +22,12 @@ abbrev pub header_of : Covered → CoveredHeader
 header_of c = record { stream_index = c.stream_index; flags = c.flags; extra = c.extra }
 
 -- the frame with its unit
-abbrev pub outgoing : LoadedFrame → List ℕ → OutgoingFrame
-outgoing f unit = record { count = f.count; frame = f.frame; kind = f.kind; time = f.time; unit = unit }
+abbrev pub loaded_outgoing : LoadedFrame → List ℕ → OutgoingFrame
+loaded_outgoing f unit = record { count = f.count; frame = f.frame; kind = f.kind; time = f.time; unit = unit }
+
+-- the most datagrams of a frame that has parity
+abbrev pub most_datagrams : ℕ
+most_datagrams = most_blocks * most_shards_of_code
 
 -- the blocks of a unit of this length
 abbrev pub plans_at : StreamSettings → ℕ → List BlockPlan
@@ -49,8 +53,8 @@ block_data s f b unit =
     data_shards_from b.shards 0 (f.count + b.first_datagram) (shares b.shards (payload_of s) (block_image s f b unit))
 
 -- its shards
-abbrev pub shards_of_block : StreamSettings → LoadedFrame → PlacedBlock → List ℕ → List (List ℕ)
-shards_of_block s f b unit = block_shards s (placed_plan b) (f.count + b.first_datagram) (block_image s f b unit)
+abbrev pub placed_shards : StreamSettings → LoadedFrame → PlacedBlock → List ℕ → List (List ℕ)
+placed_shards s f b unit = block_shards s (placed_plan b) (f.count + b.first_datagram) (block_image s f b unit)
 
 -- a payload of the image, by its number behind the first ones
 abbrev pub payload_at : ℕ → ℕ → ℕ → List ℕ → ℕ → List ℕ
@@ -79,13 +83,13 @@ place_of f b = record { frame = f.frame; time = f.time; block = b.number; last_b
 pub record IsCarried (s : StreamSettings) (f : LoadedFrame) (b : PlacedBlock) (unit : List ℕ) (index : ℕ)
     (covered : Covered) (payload : List ℕ) : Type 0 where
   pub shard : List ℕ
-  pub shard_is : slice_get (shards_of_block s f b unit) index ≡ Some shard
+  pub shard_is : slice_get (placed_shards s f b unit) index ≡ Some shard
   pub covered_is : header_of covered ≡ read_covered shard
   pub payload_is : payload ≡ drop packet_header shard
 
 -- what a splitter's fields have: room for the shards of any frame with parity, and, of a frame that is loaded, its plan
 -- and as many kept bytes as its shards take
-pub record IsSound (s : StreamSettings) (f : LoadedFrame) (kept capacity : ℕ) : Type 0 where
-  pub room : 0 < s.percentage → 1020 * s.packet ≤ capacity
+pub record IsFrameSound (s : StreamSettings) (f : LoadedFrame) (kept capacity : ℕ) : Type 0 where
+  pub room : 0 < s.percentage → most_datagrams * s.packet ≤ capacity
   pub planned : 0 < f.datagrams → IsPlanned s f
   pub enough : 0 < f.datagrams → has_parity_at s f.unit_length ≡ true → f.datagrams * s.packet ≤ kept

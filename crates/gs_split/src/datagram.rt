@@ -2,6 +2,7 @@
 
 ghost use Rattle.std.specs.Prelude.{ℕ, ◌≡◌, ◌≤◌, ◌<◌, ◌+◌, ◌*◌, List, Some, length, take, drop, true};
 ghost use Rattle.std.specs.List.{slice_get};
+ghost use Rattle.gs_rtp.specs.Limits.{most_blocks};
 ghost use Rattle.gs_rtp.specs.Stream.{numbers_of};
 ghost use Rattle.gs_frames.specs.Datagrams.{frame_datagrams, shard_head};
 ghost use Rattle.gs_frames.specs.Shards.{read_covered};
@@ -12,17 +13,14 @@ ghost use Rattle.gs_split.specs.Loaded.{
   IsCarried,
   IsPlanned,
   header_of,
-  outgoing,
+  loaded_outgoing,
   place_of,
 };
 
 use crate::frame::LoadedFrame;
 use crate::placed::PlacedBlock;
 use crate::shard::{Covered, PACKET_HEADER};
-use gs_rtp::{Settings, VIDEO_HEADER_LENGTH, VideoHead, write_video};
-
-// How many bytes of a datagram stand before its packet.
-pub(crate) const RTP_HEADER: usize = 16;
+use gs_rtp::{RTP_HEADER_LENGTH, Settings, VIDEO_HEADER_LENGTH, VideoHead, write_video};
 
 // Ticks of the RTP clock in a millisecond.
 const CLOCK: u32 = 90;
@@ -49,7 +47,7 @@ impl LoadedFrame {
         covered: Covered,
     ) -> VideoHead
         requires blocks { 1 ≤ self.now.plan.blocks }
-        requires number { block.now.number < 4 }
+        requires number { block.now.number < most_blocks }
         requires few { block.now.first_datagram ≤ 400000 }
         ensures { (shard : List ℕ) → header_of covered ≡ read_covered shard
             → result
@@ -95,7 +93,7 @@ impl LoadedFrame {
             → self.now.datagrams * settings.now.packet ≤ length kept.now }
         requires size { length out.old + 16 ≡ settings.now.packet }
         ensures { (has_parity_at (numbers_of settings.now) self.now.unit_length ≡ true
-            → KeepsShards (numbers_of settings.now) (outgoing self.now unit.now) kept.now)
+            → KeepsShards (numbers_of settings.now) (loaded_outgoing self.now unit.now) kept.now)
             → IsCarried (numbers_of settings.now) self.now block.now unit.now index result out.new }
     {
         if self.plan.percentage == 0 {
@@ -123,14 +121,14 @@ impl LoadedFrame {
             → self.now.datagrams * settings.now.packet ≤ length kept.now }
         requires room { 16 + settings.now.packet ≤ length out.old }
         ensures datagram { (has_parity_at (numbers_of settings.now) self.now.unit_length ≡ true
-            → KeepsShards (numbers_of settings.now) (outgoing self.now unit.now) kept.now)
-            → slice_get (frame_datagrams (numbers_of settings.now) (outgoing self.now unit.now)) k
+            → KeepsShards (numbers_of settings.now) (loaded_outgoing self.now unit.now) kept.now)
+            → slice_get (frame_datagrams (numbers_of settings.now) (loaded_outgoing self.now unit.now)) k
             ≡ Some (take (16 + settings.now.packet) out.new) }
         ensures rest { drop (16 + settings.now.packet) out.new ≡ drop (16 + settings.now.packet) out.old }
     {
         let block = self.plan.block_of(k);
         let index = (k - block.first_datagram) as u16;
-        let end = RTP_HEADER + usize::from(settings.packet);
+        let end = RTP_HEADER_LENGTH + usize::from(settings.packet);
         let payload = &mut out[VIDEO_HEADER_LENGTH..end];
         let covered = self.put_payload(settings, &block, index, unit, kept, payload);
         write_video(&self.head(settings, &block, index, covered), out);

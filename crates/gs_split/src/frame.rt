@@ -8,7 +8,7 @@ ghost use Rattle.gs_rtp.specs.Stream.{numbers_of};
 ghost use Rattle.gs_frames.specs.Datagrams.{frame_shards};
 ghost use Rattle.gs_frames.specs.Image.{packets};
 ghost use Rattle.gs_frames.specs.ImageLaws.{IsWrittenKind};
-ghost use Rattle.gs_frames.specs.Shards.{most_payload, payload_of};
+ghost use Rattle.gs_frames.specs.Shards.{least_payload, most_payload, payload_of};
 ghost use Rattle.gs_split.specs.Splitting.{KeepsShards, has_parity_at};
 ghost use Rattle.gs_split.specs.Loaded.{
   IsPlanned,
@@ -16,9 +16,9 @@ ghost use Rattle.gs_split.specs.Loaded.{
   covered_at,
   data_shard_at,
   header_of,
-  outgoing,
+  loaded_outgoing,
   payload_at,
-  shards_of_block,
+  placed_shards,
 };
 
 use crate::image::write_payload;
@@ -91,7 +91,7 @@ impl LoadedFrame {
 
     // Writes the payload of a data shard.
     pub(crate) fn write_data(&self, block: &PlacedBlock, index: u16, unit: &[u8], out: &mut [u8])
-        requires payload { 1008 ≤ length out.old }
+        requires payload { least_payload ≤ length out.old }
         requires most { length out.old ≤ most_payload }
         requires limit { length unit.now ≤ most_unit }
         requires packets { block.now.first_packet + index + 1 ≤ packets (length unit.now) (length out.old) }
@@ -113,7 +113,8 @@ impl LoadedFrame {
         requires size { length out.old ≡ settings.now.packet }
         requires few { block.now.first_datagram ≤ 400000 }
         requires limit { length unit.now ≤ most_unit }
-        requires packets { block.now.first_packet + index + 1 ≤ packets (length unit.now) (payload_of (numbers_of settings.now)) }
+        requires packets { block.now.first_packet + index + 1
+            ≤ packets (length unit.now) (payload_of (numbers_of settings.now)) }
         ensures { out.new ≡ data_shard_at (numbers_of settings.now) self.now block.now unit.now index }
     {
         self.covered(block, index).write(out);
@@ -131,7 +132,8 @@ impl LoadedFrame {
         requires size { length out.old ≡ block.now.shards * settings.now.packet }
         requires few { block.now.first_datagram ≤ 400000 }
         requires limit { length unit.now ≤ most_unit }
-        requires packets { block.now.first_packet + block.now.shards ≤ packets (length unit.now) (payload_of (numbers_of settings.now)) }
+        requires packets { block.now.first_packet + block.now.shards
+            ≤ packets (length unit.now) (payload_of (numbers_of settings.now)) }
         ensures { out.new ≡ concat (block_data (numbers_of settings.now) self.now block.now unit.now) }
     {
         let packet = usize::from(settings.packet);
@@ -149,8 +151,9 @@ impl LoadedFrame {
         requires few { block.now.first_datagram ≤ 400000 }
         requires written { IsWrittenKind self.now.kind }
         requires limit { length unit.now ≤ most_unit }
-        requires packets { block.now.first_packet + block.now.shards ≤ packets (length unit.now) (payload_of (numbers_of settings.now)) }
-        ensures { out.new ≡ concat (shards_of_block (numbers_of settings.now) self.now block.now unit.now) }
+        requires packets { block.now.first_packet + block.now.shards
+            ≤ packets (length unit.now) (payload_of (numbers_of settings.now)) }
+        ensures { out.new ≡ concat (placed_shards (numbers_of settings.now) self.now block.now unit.now) }
     {
         let packet = usize::from(settings.packet);
         let (data, parity) = out.split_at_mut(usize::from(block.shards) * packet);
@@ -165,7 +168,8 @@ impl LoadedFrame {
         requires unit { length unit.now ≡ self.now.unit_length }
         requires parity { has_parity_at (numbers_of settings.now) self.now.unit_length ≡ true }
         requires size { length out.old ≡ self.now.datagrams * settings.now.packet }
-        ensures { out.new ≡ concat (map (λ r. r.shard) (frame_shards (numbers_of settings.now) (outgoing self.now unit.now))) }
+        ensures { out.new ≡ concat (map (λ r.
+            r.shard) (frame_shards (numbers_of settings.now) (loaded_outgoing self.now unit.now))) }
     {
         let packet = usize::from(settings.packet);
         'each: for number in 0..usize::from(self.plan.blocks) {
@@ -182,7 +186,7 @@ impl LoadedFrame {
         requires unit { length unit.now ≡ self.now.unit_length }
         requires parity { has_parity_at (numbers_of settings.now) self.now.unit_length ≡ true }
         requires room { self.now.datagrams * settings.now.packet ≤ length kept.old }
-        ensures { KeepsShards (numbers_of settings.now) (outgoing self.now unit.now) kept.new }
+        ensures { KeepsShards (numbers_of settings.now) (loaded_outgoing self.now unit.now) kept.new }
     {
         let size = self.datagrams as usize * usize::from(settings.packet);
         self.write_shards(settings, unit, &mut kept[..size]);

@@ -22,5 +22,5 @@ mod splitter;
 #[cfg(test)]
 mod tests;
 
-pub use plan::{BLOCKS_GREATEST, Plan, plan_of};
+pub use plan::{Plan, plan_of};
 pub use splitter::Splitter;

@@ -1,6 +1,7 @@
 // Where the blocks of a frame stand in it.
 
 ghost use Rattle.std.specs.Prelude.{◌≡◌, ◌≤◌, ◌<◌, ◌+◌, ◌*◌};
+ghost use Rattle.gs_rtp.specs.Limits.{most_blocks};
 ghost use Rattle.gs_split.specs.Plans.{block_at, blocks_of};
 ghost use Rattle.gs_split.specs.Places.{IsPlaced, block_end, datagrams_before, placed_plan};
 
@@ -31,7 +32,7 @@ impl PlacedBlock {
 impl Plan {
     // The block of this number, behind so many packets and datagrams.
     fn place(&self, number: usize, first_packet: u32, first_datagram: u32) -> PlacedBlock
-        requires { number < 4 }
+        requires { number < most_blocks }
         ensures number { result.number ≡ number }
         ensures plan { placed_plan result ≡ block_at self.now number }
         ensures first_packet { result.first_packet ≡ first_packet }
@@ -58,7 +59,7 @@ impl Plan {
 
     // The block behind this one.
     fn next(&self, block: &PlacedBlock) -> PlacedBlock
-        requires few { self.now.blocks ≤ 4 }
+        requires few { self.now.blocks ≤ most_blocks }
         requires behind { block.now.number + 1 < self.now.blocks }
         requires placed { IsPlaced (blocks_of self.now) block.now }
         ensures placed { IsPlaced (blocks_of self.now) result }
@@ -70,7 +71,7 @@ impl Plan {
 
     // The block of this number.
     pub(crate) fn block(&self, number: usize) -> PlacedBlock
-        requires few { self.now.blocks ≤ 4 }
+        requires few { self.now.blocks ≤ most_blocks }
         requires number { number < self.now.blocks }
         ensures placed { IsPlaced (blocks_of self.now) result }
         ensures number { result.number ≡ number }
@@ -85,7 +86,7 @@ impl Plan {
     // The block that has this datagram of the frame, by the datagram's number in the frame.
     pub(crate) fn block_of(&self, k: u32) -> PlacedBlock
         requires some { 1 ≤ self.now.blocks }
-        requires few { self.now.blocks ≤ 4 }
+        requires few { self.now.blocks ≤ most_blocks }
         requires number { k < datagrams_before self.now.blocks (blocks_of self.now) }
         ensures placed { IsPlaced (blocks_of self.now) result }
         ensures number { result.number < self.now.blocks }
@@ -102,7 +103,7 @@ impl Plan {
     // How many datagrams the frame has.
     pub(crate) fn datagrams(&self) -> u32
         requires some { 1 ≤ self.now.blocks }
-        requires few { self.now.blocks ≤ 4 }
+        requires few { self.now.blocks ≤ most_blocks }
         ensures { result ≡ datagrams_before self.now.blocks (blocks_of self.now) }
     {
         self.block(usize::from(self.blocks) - 1).end()

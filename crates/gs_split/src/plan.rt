@@ -2,19 +2,17 @@
 
 ghost use Rattle.std.specs.Prelude.{◌≡◌, ◌≤◌, ◌<◌, ◌*◌, slice_index, if◌then◌else◌};
 ghost use Rattle.gs_bytes.specs.Limits.{most_unit};
-ghost use Rattle.gs_rtp.specs.Limits.{most_shards_of_block};
+ghost use Rattle.gs_rtp.specs.Limits.{most_blocks, most_minimum, most_percentage, most_shards_of_block};
 ghost use Rattle.gs_rtp.specs.Stream.{numbers_of};
 ghost use Rattle.gs_frames.specs.Image.{most_packets, packets};
 ghost use Rattle.gs_frames.specs.Plan.{block_count, fec_plan, has_parity, most_shards, parts};
-ghost use Rattle.gs_frames.specs.Shards.{payload_of};
+ghost use Rattle.gs_frames.specs.Shards.{least_payload, payload_of};
 ghost use Rattle.gs_split.specs.Plans.{IsZeroFrom, block_plan, blocks_of, protected};
 
 use crate::shard::PACKET_HEADER;
 use gs_frames::IMAGE_HEADER_LENGTH;
-use gs_rtp::{CODE_SHARDS_GREATEST, LAST_BLOCK_GREATEST, SHARDS_GREATEST, Settings};
-
-/// The most blocks of a frame.
-pub const BLOCKS_GREATEST: usize = LAST_BLOCK_GREATEST as usize + 1;
+use gs_rs::MAX_SHARDS;
+use gs_rtp::{BLOCKS_GREATEST, SHARDS_GREATEST, Settings};
 
 /// How a frame is parted into blocks. What is said of each block stands at the block's place; the places at and
 /// above `blocks` hold 0.
@@ -37,7 +35,7 @@ pub struct Plan {
 // How many payloads a unit of this length takes, with its image's header.
 fn packets_of(len: u32, payload: u16) -> u32
     requires limit { len ≤ most_unit }
-    requires payload { 1008 ≤ payload }
+    requires payload { least_payload ≤ payload }
     ensures is { result ≡ packets len payload }
     ensures least { 1 ≤ result }
     ensures most { result ≤ most_packets }
@@ -48,14 +46,14 @@ fn packets_of(len: u32, payload: u16) -> u32
 // The most data shards of a block that leave room for their parity.
 fn most_shards_at(percentage: u8) -> u32
     ensures is { result ≡ most_shards percentage }
-    ensures least { percentage ≤ 100 → 127 ≤ result }
+    ensures least { percentage ≤ most_percentage → 127 ≤ result }
 {
-    100 * CODE_SHARDS_GREATEST / (100 + u32::from(percentage))
+    100 * MAX_SHARDS as u32 / (100 + u32::from(percentage))
 }
 
 // Whether a frame of so many packets has parity.
 fn is_protected(packets: u32, percentage: u8) -> bool
-    requires within { percentage ≤ 100 }
+    requires within { percentage ≤ most_percentage }
     ensures { result ≡ has_parity packets percentage }
 {
     percentage > 0 && packets.div_ceil(most_shards_at(percentage)) as usize <= BLOCKS_GREATEST
@@ -65,10 +63,10 @@ fn is_protected(packets: u32, percentage: u8) -> bool
 fn blocks_at(packets: u32, percentage: u8) -> u32
     requires least { 1 ≤ packets }
     requires most { packets ≤ most_packets }
-    requires within { percentage ≤ 100 }
+    requires within { percentage ≤ most_percentage }
     ensures is { result ≡ block_count packets percentage }
     ensures some { 1 ≤ result }
-    ensures few { result ≤ 4 }
+    ensures few { result ≤ most_blocks }
     ensures room { packets ≤ result * most_shards_of_block }
 {
     if is_protected(packets, percentage) {
@@ -80,9 +78,9 @@ fn blocks_at(packets: u32, percentage: u8) -> u32
 
 // The percentage that a frame of so many packets is planned with.
 fn percentage_at(packets: u32, percentage: u8) -> u8
-    requires within { percentage ≤ 100 }
+    requires within { percentage ≤ most_percentage }
     ensures is { result ≡ (if has_parity packets percentage then percentage else 0) }
-    ensures most { result ≤ 100 }
+    ensures most { result ≤ most_percentage }
 {
     if is_protected(packets, percentage) {
         percentage
@@ -94,8 +92,8 @@ fn percentage_at(packets: u32, percentage: u8) -> u8
 // How many of the packets are a block's data shards: as many in each block, and the rest in the last one.
 fn part(packets: u32, blocks: u32, block: u32) -> u32
     requires some { 1 ≤ blocks }
-    requires few { blocks ≤ 4 }
-    requires block { block < 4 }
+    requires few { blocks ≤ most_blocks }
+    requires block { block < most_blocks }
     requires room { packets ≤ blocks * most_shards_of_block }
     ensures is { result ≡ slice_index (parts packets blocks) block }
     ensures most { result ≤ most_shards_of_block }
@@ -120,8 +118,8 @@ struct Block {
 
 // A block of so many data shards, at a percentage of parity, 0 for none.
 fn protect(shards: u16, percentage: u8, minimum: u8) -> Block
-    requires within { percentage ≤ 100 }
-    requires least { minimum ≤ 2 }
+    requires within { percentage ≤ most_percentage }
+    requires least { minimum ≤ most_minimum }
     requires most { shards ≤ most_shards_of_block }
     ensures { block_plan result ≡ protected percentage minimum shards }
 {
@@ -160,11 +158,11 @@ struct Parting {
 // A block of a plan of so many packets in so many blocks.
 fn block_of(parting: Parting, block: u32, percentage: u8, minimum: u8) -> Block
     requires some { 1 ≤ parting.blocks }
-    requires few { parting.blocks ≤ 4 }
-    requires block { block < 4 }
+    requires few { parting.blocks ≤ most_blocks }
+    requires block { block < most_blocks }
     requires room { parting.packets ≤ parting.blocks * most_shards_of_block }
-    requires within { percentage ≤ 100 }
-    requires least { minimum ≤ 2 }
+    requires within { percentage ≤ most_percentage }
+    requires least { minimum ≤ most_minimum }
     ensures { block_plan result
         ≡ protected percentage minimum (slice_index (parts parting.packets parting.blocks) block) }
 {
@@ -172,7 +170,7 @@ fn block_of(parting: Parting, block: u32, percentage: u8, minimum: u8) -> Block
     protect(shards, percentage, minimum)
 }
 
-/// How a frame with a unit of so many bytes is parted into blocks at these settings.
+/// How a frame with a unit of `len` bytes, 0 to 4,000,000, is parted into blocks at these settings.
 pub fn plan_of(len: u32, settings: &Settings) -> Plan
     requires limit { len ≤ most_unit }
     ensures packets { result.packets ≡ packets len (payload_of (numbers_of settings.now)) }

@@ -1,20 +1,21 @@
 // From the units of frames to their datagrams.
 
-ghost use Rattle.std.specs.Prelude.{ℕ, ◌≡◌, ◌≤◌, ◌<◌, ◌+◌, ◌*◌, ◌%◌, ◌^◌, IfOk, Some, length, take, drop, true, vec_len, vec_capacity};
+ghost use Rattle.std.specs.Prelude.{ℕ, ◌≡◌, ◌≤◌, ◌<◌, ◌+◌, ◌*◌, ◌%◌, ◌^◌, IfOk, Some, length, take, drop, true};
+ghost use Rattle.std.specs.Prelude.{vec_len, vec_capacity};
 ghost use Rattle.std.specs.List.{slice_get};
 ghost use Rattle.gs_bytes.specs.Limits.{most_unit};
-ghost use Rattle.gs_rtp.specs.Limits.{most_frame};
+ghost use Rattle.gs_rtp.specs.Limits.{most_frame, most_stream_datagram};
 ghost use Rattle.gs_rtp.specs.Stream.{numbers_of};
 ghost use Rattle.gs_frames.specs.ImageLaws.{IsWrittenKind};
 ghost use Rattle.gs_frames.specs.Datagrams.{OutgoingFrame, frame_datagrams};
 ghost use Rattle.gs_split.specs.Splitting.{IsFresh, IsLoaded, KeepsShards, frame_behind, has_parity_at, next_count};
-ghost use Rattle.gs_split.specs.Loaded.{IsPlanned, outgoing};
+ghost use Rattle.gs_split.specs.Loaded.{IsPlanned, most_datagrams, loaded_outgoing};
 
-use crate::datagram::RTP_HEADER;
 use crate::frame::{FrameLabel, LoadedFrame};
-use crate::plan::{BLOCKS_GREATEST, Plan};
+use crate::plan::Plan;
 use gs_bytes::OutOfMemory;
-use gs_rtp::{CODE_SHARDS_GREATEST, Settings};
+use gs_rs::MAX_SHARDS;
+use gs_rtp::{BLOCKS_GREATEST, RTP_HEADER_LENGTH, Settings};
 use std::alloc::Global;
 use std::marker::Model;
 
@@ -36,8 +37,8 @@ const NO_FRAME: LoadedFrame = LoadedFrame {
     datagrams: 0,
 };
 
-/// Makes the datagrams of a stream, frame by frame. It keeps how many went out before the loaded frame, modulo 2^32, and
-/// the shards of a loaded frame that has parity.
+/// Makes the datagrams of a stream, frame by frame. It keeps how many went out before the loaded frame, modulo 2^32,
+/// and the shards of a loaded frame that has parity.
 #[derive(Drop)]
 pub struct Splitter {
     settings: Settings,
@@ -51,7 +52,7 @@ impl Model for Splitter {
     ghost use Rattle.std.specs.Prelude.{vec_len, vec_capacity};
     ghost use Rattle.gs_rtp.specs.Stream.{numbers_of};
     ghost use Rattle.gs_split.specs.Splitting.{Splitting};
-    ghost use Rattle.gs_split.specs.Loaded.{IsSound};
+    ghost use Rattle.gs_split.specs.Loaded.{IsFrameSound};
 
     ghost Value = { Splitting };
 
@@ -66,17 +67,17 @@ impl Model for Splitter {
       kept = s.kept.items;
     } };
 
-    ghost invariant = { λ s. IsSound (numbers_of s.settings) s.loaded (vec_len s.kept) (vec_capacity s.kept) };
+    ghost invariant = { λ s. IsFrameSound (numbers_of s.settings) s.loaded (vec_len s.kept) (vec_capacity s.kept) };
 }
 
 // How many bytes the shards of a frame with parity take at most.
 fn most_kept(settings: &Settings) -> usize
-    ensures { 0 < settings.now.percentage → 1020 * settings.now.packet ≤ result }
+    ensures { 0 < settings.now.percentage → most_datagrams * settings.now.packet ≤ result }
 {
     if settings.percentage == 0 {
         return 0;
     }
-    BLOCKS_GREATEST * CODE_SHARDS_GREATEST as usize * usize::from(settings.packet)
+    BLOCKS_GREATEST * MAX_SHARDS * usize::from(settings.packet)
 }
 
 // Makes bytes at least so long, within their room.
@@ -94,12 +95,12 @@ fn lengthen(bytes: &mut Vec<u8>, size: usize)
 fn keep_shards(settings: &Settings, frame: &LoadedFrame, unit: &[u8], kept: &mut Vec<u8>)
     requires planned { IsPlanned (numbers_of settings.now) frame.now }
     requires unit { length unit.now ≡ frame.now.unit_length }
-    requires room { 0 < settings.now.percentage → 1020 * settings.now.packet ≤ vec_capacity kept.old }
+    requires room { 0 < settings.now.percentage → most_datagrams * settings.now.packet ≤ vec_capacity kept.old }
     ensures capacity { vec_capacity kept.old ≤ vec_capacity kept.new }
     ensures enough { has_parity_at (numbers_of settings.now) frame.now.unit_length ≡ true
         → frame.now.datagrams * settings.now.packet ≤ vec_len kept.new }
     ensures shards { has_parity_at (numbers_of settings.now) frame.now.unit_length ≡ true
-        → KeepsShards (numbers_of settings.now) (outgoing frame.now unit.now) kept.new.items }
+        → KeepsShards (numbers_of settings.now) (loaded_outgoing frame.now unit.now) kept.new.items }
 {
     if frame.plan.percentage == 0 {
         return;
@@ -121,8 +122,9 @@ impl Splitter {
         })
     }
 
-    /// Loads a frame: its number, from 1, its kind (1 a unit against the frame before, 2 an IDR unit, 5 a unit against
-    /// an older frame), the time of its tick in milliseconds, and its unit. Answers how many datagrams it has.
+    /// Loads a frame: its number, 1 to 1,048,576, its kind (1 a unit against the frame before, 2 an IDR unit, 5 a unit
+    /// against an older frame), the time of its tick in milliseconds, any number of 32 bits, and its unit, of 0 to
+    /// 4,000,000 bytes. Answers how many datagrams it has.
     pub fn load(&mut self, frame: u32, kind: u8, time: u32, unit: &[u8]) -> u32
         requires frame_least { 1 ≤ frame }
         requires frame_greatest { frame ≤ most_frame }
@@ -146,11 +148,11 @@ impl Splitter {
     }
 
     /// Writes a datagram of the loaded frame, by its number in the frame, from 0, in any order, and answers its length.
-    /// `unit` is the frame's unit, and `out` has 1,456 bytes or more.
+    /// `unit` is the frame's unit, and `out` has `DATAGRAM_GREATEST` bytes or more.
     pub fn datagram(&mut self, k: u32, unit: &[u8], out: &mut [u8]) -> usize
         requires number { k < self.old.datagrams }
         requires unit { length unit.now ≡ self.old.unit_length }
-        requires room { 1456 ≤ length out.old }
+        requires room { most_stream_datagram ≤ length out.old }
         ensures kept { self.new ≡ self.old }
         ensures length { result ≡ self.old.settings.packet + 16 }
         ensures datagram { (sent : OutgoingFrame) → IsLoaded self.old sent → sent.unit ≡ unit.now
@@ -159,6 +161,6 @@ impl Splitter {
     {
         self.loaded
             .write_datagram(&self.settings, k, unit, &self.kept, out);
-        RTP_HEADER + usize::from(self.settings.packet)
+        RTP_HEADER_LENGTH + usize::from(self.settings.packet)
     }
 }

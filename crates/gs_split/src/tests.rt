@@ -233,13 +233,31 @@ fn splits_the_largest_frame(rt: HostRuntime) {
     let mut splitter = Splitter::new(rt.alloc(), &settings(20, 0)).expect(&rt, "memory");
     let mut out = [0; 1456];
     assert_eq!(rt; splitter.load(1, 2, 0, &unit), 1020);
-    // the first block's first and last datagrams, the second's first, and the fourth's last
+    // the first block's first and last datagrams, the first of each block behind it, the last data shard, and the
+    // last datagram
     splitter.datagram(0, &unit, &mut out);
     assert!(rt; stands_at(&out, 27, &[0xC0, 0x40, 1, 0, 0x35, 1, 0, 0, 2, 0xF0, 3]));
     splitter.datagram(254, &unit, &mut out);
     assert!(rt; stands_at(&out, 27, &[0xC0, 0x40, 0xE1, 0x0F, 0x35]));
     splitter.datagram(255, &unit, &mut out);
     assert!(rt; stands_at(&out, 27, &[0xD0, 0x40, 1, 0, 0x35, 3]));
+    splitter.datagram(510, &unit, &mut out);
+    assert!(rt; stands_at(&out, 27, &[0xE0, 0x40, 1, 0, 0x35, 3]));
+    splitter.datagram(765, &unit, &mut out);
+    assert!(rt; stands_at(&out, 2, &[0x02, 0xFD]));
+    assert!(rt;
+        stands_at(
+            &out,
+            16,
+            &[
+                0, 0xFD, 2, 0, 1, 0, 0, 0, 5, 0, 0x10, 0xF0, 0x40, 1, 0, 0x35
+            ]
+        )
+    );
+    assert!(rt; stands_at(&out, 32, &[3; 1008]));
+    splitter.datagram(976, &unit, &mut out);
+    assert!(rt; stands_at(&out, 24, &[3, 0, 0x10, 0xF0, 0x40, 0x31, 0x0D, 0x35]));
+    assert!(rt; stands_at(&out, 32, &[3; 1008]));
     splitter.datagram(1019, &unit, &mut out);
     assert!(rt; stands_at(&out, 27, &[0xF0, 0x40, 0xE1, 0x0F, 0x35]));
 }

@@ -22,12 +22,12 @@ pub struct Store<T> {
 }
 
 impl<T: Drop> Store<T> {
-    ghost use Rattle.gs_store.specs.Standing.{StandsFor};
+    ghost use Rattle.gs_store.specs.Standing.{IsStoreOf};
     ghost use Rattle.gs_store.specs.Named.{named};
 
     /// A store in which nothing was put.
     pub fn new(alloc: Global) -> Result<Store<T>, OutOfMemory>
-        ensures { IfOk result (λ store. StandsFor store []) }
+        ensures { IfOk result (λ store. IsStoreOf store []) }
     {
         Ok(Store {
             count: 0,
@@ -39,8 +39,8 @@ impl<T: Drop> Store<T> {
     ///
     /// `OutOfMemory` is answered too where the count, of 64 bits, is at its end.
     pub fn put(&mut self, item: T) -> Result<(), OutOfMemory>
-        ensures put { OnOk result ((all : List T) → StandsFor self.old all → StandsFor self.new (all ++ item ∷ [])) }
-        ensures refused { OnErr result ((all : List T) → StandsFor self.old all → StandsFor self.new all) }
+        ensures put { OnOk result ((all : List T) → IsStoreOf self.old all → IsStoreOf self.new (all ++ item ∷ [])) }
+        ensures refused { OnErr result ((all : List T) → IsStoreOf self.old all → IsStoreOf self.new all) }
     {
         let Some(count) = self.count.checked_add(1) else {
             return Err(OutOfMemory);
@@ -53,14 +53,14 @@ impl<T: Drop> Store<T> {
 
     /// How many items were put.
     pub fn count(&self) -> u64
-        ensures { (all : List T) → StandsFor self.now all → result ≡ length all }
+        ensures { (all : List T) → IsStoreOf self.now all → result ≡ length all }
     {
         self.count
     }
 
     /// The item of that number, from 1, where it can still be named.
     pub fn get(&self, number: u64) -> Option<&T>
-        ensures { (all : List T) → StandsFor self.now all → option_copied result ≡ named all number }
+        ensures { (all : List T) → IsStoreOf self.now all → option_copied result ≡ named all number }
     {
         let forgotten = self.count - self.kept.len() as u64;
         if number <= forgotten {

@@ -47,7 +47,7 @@ came_handed client ticks h before after f host whole is_settled is_to_hand =
     })
 
 -- an IDR frame is handed behind any frames
-idr_is_handed : (resets : List ℕ) (below : List Handed) (f kind : ℕ) → kind ≡ 2 → is_handed resets below f kind ≡ true
+pub idr_is_handed : (resets : List ℕ) (below : List Handed) (f kind : ℕ) → kind ≡ 2 → is_handed resets below f kind ≡ true
 idr_is_handed resets below f kind idr = ap (is_handed resets below f) idr
 
 -- the third law

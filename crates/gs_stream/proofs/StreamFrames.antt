@@ -1,10 +1,10 @@
 -- Each datagram of a host's history is of one frame, and what is received of it is among what is received of that
 -- frame.
-use Rattle.std.proofs.Common.{◌≡◌, ◌≤◌, ◌+◌, ℕ, suc, List, [], ◌∷◌, length, map, Option, Some, None, refl, sym, ap, subst, ◌∙◌, arith}
+use Rattle.std.proofs.Common.{◌≡◌, ◌≤◌, ◌+◌, ℕ, suc, List, [], ◌∷◌, length, map, Option, Some, refl, sym, ap, subst, ◌∙◌, arith}
 use Rattle.std.specs.Prelude.{◌==◌}
-use Rattle.std.specs.List.{All, Contains, filter_map, cons_option}
+use Rattle.std.specs.List.{All, Contains}
 use Rattle.std.proofs.lemmas.Bool.{cond-true, cond-false, eq-eqb, ne_eqb}
-use Rattle.std.proofs.lemmas.List.Elements.{All-nil, All-cons, All-head, All-tail, All-append, All-weaker, All-contains, All-contains_itself}
+use Rattle.std.proofs.lemmas.List.Elements.{All-nil, All-cons, All-append, All-weaker, All-contains, All-contains_itself}
 use Rattle.gs_rtp.specs.Stream.{StreamSettings}
 use Rattle.gs_tape.specs.Tick.{Tick}
 use Rattle.gs_refs.specs.declared.entry.Entry.{Entry}
@@ -19,6 +19,7 @@ use Rattle.gs_stream.specs.Video.{sent_datagrams, video_stream}
 use Rattle.gs_frames.specs.CompleteLaws.{ComesFrom}
 use Rattle.gs_stream.specs.Paired.{IsOfStream, AreOfHistory}
 use Rattle.gs_stream.specs.HandedLaws.{IsHostHistory}
+use Rattle.gs_bytes.proofs.Lists.{All-filter_map}
 use Rattle.gs_stream.proofs.FrameStreams.{count_before, datagrams_by, datagrams_of_frame, received_of, IsOfSentFrame, IsReceivedOfSentFrame, sent_out}
 use Rattle.gs_stream.proofs.SentFrames.{frame_is_sent}
 
@@ -36,16 +37,6 @@ contained_answers {X} {Y} g (x ∷ xs) (y ∷ ys) same =
     All-cons Among x xs (y, first, (0, omega arith, refl))
     (All-weaker (λ x'. (y' : Y) × (g x' ≡ Some y') × Contains ys y') Among (λ x' a. (a.0, a.1, (suc a.2.0, omega (arith, a.2.1), a.2.2))) xs
     (contained_answers g xs ys rest))
-
--- what holds of the answer at each member holds of all answers
-All-filter_map : {X Y : Type 0} (g : X → Option Y) (P : Y → Type 0) (xs : List X) → All (λ x. (y : Y) → g x ≡ Some y → P y) xs → All P (filter_map g xs)
-All-filter_map g P [] all = All-nil P
-All-filter_map {X} {Y} g P (x ∷ xs) all =
-    onto (g x) (All-head (λ x'. (y : Y) → g x' ≡ Some y → P y) x xs all) (All-filter_map g P xs (All-tail (λ x'. (y : Y) → g x' ≡ Some y → P y) x xs all))
-  where
-    onto : (o : Option Y) → ((y : Y) → o ≡ Some y → P y) → All P (filter_map g xs) → All P (cons_option o (filter_map g xs))
-    onto None h rest = rest
-    onto (Some y) h rest = All-cons P y (filter_map g xs) (h y refl) rest
 
 -- ---- the datagrams
 

@@ -8,7 +8,7 @@ use Rattle.gs_refs.specs.declared.entry.Entry.{Entry}
 use Rattle.gs_refs.specs.History.{frames, frame_kind}
 use Rattle.gs_refs.specs.Choice.{IsLegal}
 use Rattle.gs_frames.specs.Plan.{BlockPlan}
-use Rattle.gs_frames.specs.Datagrams.{plan_of}
+use Rattle.gs_frames.specs.Datagrams.{unit_plan}
 use Rattle.gs_frames.specs.Client.{ClientSettings, Arrival}
 use Rattle.gs_frames.specs.Received.{taken}
 use Rattle.gs_frames.specs.Complete.{IsComplete}
@@ -49,7 +49,8 @@ pub record CameWhole (client : ClientSettings) (ticks : List Tick) (h : List Ent
   pub least : 1 ≤ f
   pub greatest : f ≤ frames h
   pub not_left : All (λ r. r.head.frame < f + client.window) (taken client came)
-  pub enough : (block : ℕ) (plan : BlockPlan) → slice_get (plan_of client.stream (unit_of ticks h f)) block ≡ Some plan
+  pub enough : (block : ℕ) (plan : BlockPlan)
+      → slice_get (unit_plan client.stream (unit_of ticks h f)) block ≡ Some plan
       → HasEnough (taken client came) f block plan.data_shards
 
 -- Whichever datagrams were lost and in whatever order the others came: a frame of which enough came before any by

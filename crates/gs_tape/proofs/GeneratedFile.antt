@@ -13,7 +13,7 @@ use Rattle.gs_bytes.proofs.Cases.{on_err}
 use Rattle.gs_tape.specs.Capture.{head, tick, file}
 use Rattle.gs_tape.specs.Tick.{Tick, unit_bytes}
 use Rattle.gs_tape.specs.Limits.{most_bytes, IsWithinLimits, AreWithinLimits, AreWritable}
-use Rattle.gs_tape.specs.Writer.{Writing, IsNext, after_tick, opened}
+use Rattle.gs_tape.specs.Writer.{TapeWriting, IsNextTick, after_tick, opened_writing}
 use Rattle.gs_tape.specs.declared.write_error.WriteError.{WriteError}
 
 -- what was written is the front of the whole, and the rest is that of these ticks and the end mark
@@ -99,26 +99,26 @@ written_end_part (Err e) whole all old now now' is w part =
     part_behind old now now' w.front (0x45 ∷ []) whole (subst Parts is w.parts) w.done part
 
 -- these ticks may be written next, one after another
-pub record AreNext (w : Writing) (ts : List Tick) : Type 0 where
+pub record AreNext (w : TapeWriting) (ts : List Tick) : Type 0 where
   within : AreWithinLimits w.audio w.next.number w.next.time ts
   room : w.next.held + sum_by unit_bytes ts ≤ most_bytes
 
-pub all_next : (audio duration : ℕ) (ts : List Tick) (w : Writing) → w ≡ opened audio → AreWritable audio duration ts → AreNext w ts
+pub all_next : (audio duration : ℕ) (ts : List Tick) (w : TapeWriting) → w ≡ opened_writing audio → AreWritable audio duration ts → AreNext w ts
 all_next audio duration ts w is h =
-    let Next : Writing → Type 0 = λ x. AreNext x ts in
+    let Next : TapeWriting → Type 0 = λ x. AreNext x ts in
     subst Next (sym is) (record { within = h.within; room = omega (arith, h.bytes_most) })
 
-pub first_next : (w : Writing) (all ts : List Tick) (t : Tick) → all ≡ t ∷ ts → AreNext w all → IsNext w t
+pub first_next : (w : TapeWriting) (all ts : List Tick) (t : Tick) → all ≡ t ∷ ts → AreNext w all → IsNextTick w t
 first_next w all ts t is h =
     let Next : List Tick → Type 0 = λ l. AreNext w l in
     let n = subst Next is h in
     record { within = n.within.0; room = omega (arith, n.room, sum_by-cons unit_bytes t ts) }
 
-pub others_next : (w w' : Writing) (all ts : List Tick) (t : Tick) → all ≡ t ∷ ts → w' ≡ after_tick w t → AreNext w all → AreNext w' ts
+pub others_next : (w w' : TapeWriting) (all ts : List Tick) (t : Tick) → all ≡ t ∷ ts → w' ≡ after_tick w t → AreNext w all → AreNext w' ts
 others_next w w' all ts t is later h =
     let Next : List Tick → Type 0 = λ l. AreNext w l in
     let n = subst Next is h in
-    let Later : Writing → Type 0 = λ x. AreNext x ts in
+    let Later : TapeWriting → Type 0 = λ x. AreNext x ts in
     subst Later (sym later) (record { within = n.within.1; room = omega (arith, n.room, sum_by-cons unit_bytes t ts) })
 
 -- a call that gave a value counted no fault

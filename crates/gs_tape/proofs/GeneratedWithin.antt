@@ -10,14 +10,14 @@ use Rattle.std.proofs.lemmas.List.FromFn.{length-map-range_with_len}
 use Rattle.std.proofs.lemmas.List.Sums.{sum_by-cons, sum_by-append}
 use Rattle.gs_tape.specs.Tick.{Delta, unit_bytes}
 use Rattle.gs_tape.specs.Limits.{most_unit, AreDeltasBetween, IsWithinLimits, AreWithinLimits}
-use Rattle.gs_tape.specs.Generated.{Drawn, draw, next_state, unit_of, unit_from, with_delta, deltas, with_sound, three_sounds, sounds, tick, ticks_from}
+use Rattle.gs_tape.specs.Generated.{Drawn, draw, next_state, drawn_unit, unit_from, with_delta, deltas, with_sound, three_sounds, sounds, tick, ticks_from}
 use Rattle.gs_tape.specs.GeneratedLaws.{GeneratedTicksAreWritable}
 use Rattle.gs_tape.proofs.Parts.{delta_none, delta_some}
 
 -- ---- units
 
-length-unit_of : (n s : ℕ) → length (unit_of n s).value ≡ n
-unfolding unit_of
+length-unit_of : (n s : ℕ) → length (drawn_unit n s).value ≡ n
+unfolding drawn_unit
 length-unit_of n s = length-map-range_with_len (λ (i : ℕ). (draw s % 251 + i) % 251) 0 n
 
 length-unit_from : (least span s : ℕ) → 0 < span → length (unit_from least span s).value < least + span
@@ -93,7 +93,7 @@ record AreSounds (k : ℕ) (us : List (List ℕ)) : Type 0 where
 one_sound : (k : ℕ) (x : Drawn (List (List ℕ))) → AreSounds k x.value → AreSounds (k + 1) (with_sound x).value
 unfolding with_sound
 one_sound k x is =
-    let unit = (unit_of 240 x.state).value in
+    let unit = (drawn_unit 240 x.state).value in
     let long = length-unit_of 240 x.state in
     record {
       whole = All-push (λ u. length u ≡ 240) x.value unit is.whole long;

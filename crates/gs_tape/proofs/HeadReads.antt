@@ -6,20 +6,21 @@ use Rattle.std.specs.Result.{IsErrAnd}
 use Rattle.std.proofs.lemmas.Result.{err_from_is_err_and}
 use Rattle.gs_reader.specs.Buffered.{to_come}
 use Rattle.gs_tape.specs.Limits.{most_audio}
-use Rattle.gs_tape.specs.Reading.{Fault, Malformed, AudioLength, ◌>>=◌, unless, number_at, text_at, Before, Head, head_at, Read, ticks_at, before_first}
-use Rattle.gs_tape.specs.Reading.{read_behind, read, audio_of_head, duration_of_head, audio_length, audio_duration}
+use Rattle.gs_tape.specs.Reading.{Fault, Malformed, AudioLength, ◌>>=◌, unless, number_at, text_at, Before, CaptureHead, head_at, ReadTape, ticks_at}
+use Rattle.gs_tape.specs.Reading.{before_first}
+use Rattle.gs_tape.specs.Reading.{read_behind, read_tape, audio_of_head, duration_of_head, audio_length, audio_duration}
 use Rattle.gs_tape.specs.declared.error.TapeError.{TapeError}
 use Rattle.gs_tape.specs.declared.stage.Stage.TheVariants.{Open}
 use Rattle.gs_tape.specs.declared.stage.Stage.{Stage}
 use Rattle.gs_tape.specs.Errors.{fault_of}
 use Rattle.gs_tape.specs.Steps.{gives, then_read, number, text, head}
-use Rattle.gs_tape.specs.Streaming.{Reads}
+use Rattle.gs_tape.specs.Streaming.{ReadsStep}
 use Rattle.gs_tape.specs.Tape.{reading, to_read, unread_at, Opened, OpensAs, Opens}
 use Rattle.gs_tape.proofs.Streams.{Fails}
 use Rattle.gs_tape.proofs.SameSteps.{bind_assoc, bind_each, bind_of, then_bind, refused_bind}
 use Rattle.gs_tape.proofs.Shrinks.{enough_steps}
 
-abbrev made : (ℕ × ℕ) × List ℕ → Result (Head × List ℕ) Fault
+abbrev made : (ℕ × ℕ) × List ℕ → Result (CaptureHead × List ℕ) Fault
 made y = Ok (record { audio = y.0.0; duration = y.0.1 }, y.1)
 
 abbrev kept : {A : Type 0} → A → List ℕ → Result (A × List ℕ) Fault
@@ -45,15 +46,15 @@ head_same size bytes =
     ∙ bind_each (number_at size 1 timed) _ _ (λ last.
     finished (not (last.0 == 0)) (Malformed 1 (size - length timed)) (record { audio = audio.0; duration = ms.0 }) last.1))))))
 
-fault_in_head : (bytes : List ℕ) (fault : Fault) → head (length bytes) bytes ≡ Err fault → head_at (length bytes) bytes ≡ Err fault
+pub fault_in_head : (bytes : List ℕ) (fault : Fault) → head (length bytes) bytes ≡ Err fault → head_at (length bytes) bytes ≡ Err fault
 fault_in_head bytes fault is =
     let size = length bytes in
     sym (head_same size bytes) ∙ bind_of (head size bytes) (Err fault) made is
 
-head_read : (bytes left : List ℕ) (place audio duration : ℕ) → length bytes ≡ place + length left
+pub head_read : (bytes left : List ℕ) (place audio duration : ℕ) → length bytes ≡ place + length left
     → head (length bytes) bytes ≡ Ok ((audio, duration), left)
-    → (read bytes ≡ reading place audio before_first left) × (audio_length bytes ≡ audio) × (audio_duration bytes ≡ duration)
-unfolding read
+    → (read_tape bytes ≡ reading place audio before_first left) × (audio_length bytes ≡ audio) × (audio_duration bytes ≡ duration)
+unfolding read_tape
 head_read bytes left place audio duration size is =
     let found : head_at (length bytes) bytes ≡ Ok (record { audio = audio; duration = duration }, left) =
     sym (head_same (length bytes) bytes) ∙ bind_of (head (length bytes) bytes) (Ok ((audio, duration), left)) made is in (
@@ -66,7 +67,7 @@ head_read bytes left place audio duration size is =
 
 -- a tape behind its head
 pub opens_ok : (held : List ℕ) (left coming : Option (List ℕ)) (place : ℕ) (tape : Opened) (now : Option (List ℕ)) → held ≡ [] → place ≡ 0
-    → Reads head (to_come held left) coming place tape.place (Ok (tape.audio, tape.duration))
+    → ReadsStep head (to_come held left) coming place tape.place (Ok (tape.audio, tape.duration))
     → tape.before ≡ before_first → tape.stage ≡ Open → coming ≡ to_come tape.held now → Opens left now (Ok tape)
 opens_ok held None coming place tape now none start read before stage here = tt
 opens_ok held (Some bytes) coming place tape now none start read before stage here =
@@ -81,15 +82,15 @@ opens_ok held (Some bytes) coming place tape now none start read before stage he
       unread_is = ap (λ (s : Stage). unread_at s (to_read tape.place tape.audio tape.before (to_come tape.held now))) stage
           ∙ ap (to_read tape.place tape.audio tape.before) (sym here ∙ read.told.1)
           ∙ ap (λ (b : Before). Some (reading tape.place tape.audio b left)) before
-          ∙ ap (λ (r : Read). Some r) (sym got.0);
+          ∙ ap (λ (r : ReadTape). Some r) (sym got.0);
       audio_is = sym got.1;
       duration_is = sym got.2;
     }
 
-opens_err : (held : List ℕ) (left now : Option (List ℕ)) (place : ℕ) (e : TapeError) → held ≡ [] → place ≡ 0
-    → Fails head (to_come held left) place e → Opens left now (Err e)
-opens_err held None now place e none start failed = tt
-opens_err held (Some bytes) now place e none start failed = by_fault (fault_of e) failed.known
+opens_err : (held : List ℕ) (left coming now : Option (List ℕ)) (place : ℕ) (e : TapeError) → held ≡ [] → place ≡ 0
+    → Fails head (to_come held left) coming place e → Opens left now (Err e)
+opens_err held None coming now place e none start failed = tt
+opens_err held (Some bytes) coming now place e none start failed = by_fault (fault_of e) failed.known
   where
     by_fault : (o : Option Fault) → IfSome o (λ fault. head (place + length (held ++ bytes)) (held ++ bytes) ≡ Err fault)
         → IfSome o (λ fault. head_at (length bytes) bytes ≡ Err fault)
@@ -99,10 +100,10 @@ opens_err held (Some bytes) now place e none start failed = by_fault (fault_of e
         let same : place + length (held ++ bytes) ≡ length bytes = omega (arith, ap (λ (l : List ℕ). length l) all, start) in
         fault_in_head bytes fault (sym (ap (λ (s : ℕ). head s (held ++ bytes)) same ∙ ap (head (length bytes)) all) ∙ known)
 
-pub opens_handed : (held : List ℕ) (left now : Option (List ℕ)) (place : ℕ) (r : Result Opened TapeError) (e : TapeError) → held ≡ [] → place ≡ 0
-    → IsErrAnd r (λ y. y ≡ e) → Fails head (to_come held left) place e → Opens left now r
-opens_handed held left now place r e none start is failed =
+pub opens_handed : (held : List ℕ) (left coming now : Option (List ℕ)) (place : ℕ) (r : Result Opened TapeError) (e : TapeError) → held ≡ [] → place ≡ 0
+    → IsErrAnd r (λ y. y ≡ e) → Fails head (to_come held left) coming place e → Opens left now r
+opens_handed held left coming now place r e none start is failed =
     let p = err_from_is_err_and r is in
     let Failed : TapeError → Result Opened TapeError = λ y. Err y in
     let P : Result Opened TapeError → Type 0 = Opens left now in
-    subst P (sym (p.1 ∙ ap Failed p.2)) (opens_err held left now place e none start failed)
+    subst P (sym (p.1 ∙ ap Failed p.2)) (opens_err held left coming now place e none start failed)

@@ -4,6 +4,7 @@ pub mod Readings
 pub mod Ticks
 pub mod Written
 pub mod WrittenFiles
+pub mod Fronts
 pub mod Streams
 pub mod StepReads
 pub mod ManySteps
@@ -11,6 +12,7 @@ pub mod SameSteps
 pub mod Shrinks
 pub mod TapeReads
 pub mod HeadReads
+pub mod Cuts
 pub mod Answered
 pub mod Parts
 pub mod GeneratedWithin

@@ -1,19 +1,18 @@
 -- One step more of lists that loops build, and of what is drawn.
-use Rattle.std.proofs.Common.{◌≡◌, ◌<◌, ◌≤◌, ◌-◌, zero, suc, Result, Ok, Err, OnOk, ◌+◌, ◌*◌, ◌/◌, ◌%◌, ℕ, List, [], ◌∷◌, ◌++◌, length, take, refl, sym, ap}
+use Rattle.std.proofs.Common.{◌≡◌, ◌<◌, ◌≤◌, ◌-◌, zero, suc, ◌+◌, ◌*◌, ◌/◌, ◌%◌, ℕ, List, [], ◌∷◌, ◌++◌, length, take, refl, sym, ap}
 use Rattle.std.proofs.Common.{subst, ◌∙◌, arith, append-nil, append_assoc}
 use Rattle.std.specs.Prelude.{get_or, nat_lt}
 use Rattle.std.proofs.lemmas.Bool.{cond-false, cond-true, le-ltb, lt-ltb}
-use Rattle.std.specs.List.{flat_map, concat}
+use Rattle.std.specs.List.{flat_map}
 use Rattle.std.proofs.Math.Nat.{mod-add-div', mul-add-mod_self_right}
 use Rattle.std.proofs.lemmas.Grind.{flat_map-append}
 use Rattle.std.proofs.lemmas.List.{take_more}
 use Rattle.std.proofs.lemmas.List.Elements.{All-nil}
-use Rattle.std.proofs.lemmas.List.Folds.{concat-append}
 use Rattle.std.proofs.lemmas.List.FromFn.{map-range_with_len_more, take-map-range_with_len}
 use Rattle.gs_tape.specs.Tick.{Tick, Delta}
 use Rattle.gs_tape.specs.Capture.{delta}
-use Rattle.gs_tape.specs.Writer.{IsNext, opened}
-use Rattle.gs_tape.specs.Generated.{pattern, Drawn, unit_from, with_delta, deltas, sounds, tick, ticks_from, Generating, to_come}
+use Rattle.gs_tape.specs.Writer.{IsNextTick, opened_writing}
+use Rattle.gs_tape.specs.Generated.{pattern, Drawn, unit_from, with_delta, deltas, sounds, tick, ticks_from, Generating, ticks_to_come}
 
 pub pattern_more : (n base : ℕ) → pattern (n + 1) base ≡ pattern n base ++ ((base + n) % 251) ∷ []
 pattern_more n base = map-range_with_len_more (λ (i : ℕ). (base + i) % 251) 0 n n (omega arith)
@@ -59,20 +58,11 @@ deltas_more ds i d within =
     ap (flat_map delta) (take_more ds i d within) ∙ flat_map-append delta (take i ds) (get_or ds i d ∷ [])
     ∙ ap (λ (l : List ℕ). flat_map delta (take i ds) ++ l) (append-nil (delta (get_or ds i d)))
 
-pub sounds_more : (us : List (List ℕ)) (i : ℕ) (u : List ℕ) → i < length us → concat (take (i + 1) us) ≡ concat (take i us) ++ get_or us i u
-sounds_more us i u within =
-    ap concat (take_more us i u within) ∙ concat-append (take i us) (get_or us i u ∷ [])
-    ∙ ap (λ (l : List ℕ). concat (take i us) ++ l) (append-nil (get_or us i u))
-
 -- a sum modulo m, of which a part was taken modulo m
 pub mod_then_add : (y c m : ℕ) → (y % m + c) % m ≡ (y + c) % m
 mod_then_add y c m =
     let whole : y / m * m + (y % m + c) ≡ y + c = omega (arith, mod-add-div' y m) in
     sym (mul-add-mod_self_right (y / m) m (y % m + c)) ∙ ap (λ (k : ℕ). k % m) whole
-
-pub on_ok : {T E : Type 0} (r : Result T E) (P : Type 0) → P → OnOk r P
-on_ok (Ok x) P h = h
-on_ok (Err e) P h = tt
 
 -- ---- what is drawn
 
@@ -110,13 +100,13 @@ tick_state t s s1 s2 s3 i d u =
     u ∙ ap (λ (k : ℕ). (sounds t k).state) (d ∙ ap (λ (k : ℕ). (deltas t k).state) i)
 
 -- all ticks were given
-pub none_to_come : (g : Generating) → g.last < g.next → to_come g ≡ []
+pub none_to_come : (g : Generating) → g.last < g.next → ticks_to_come g ≡ []
 unfolding ticks_from
 none_to_come g h = let none : g.last + 1 - g.next ≡ 0 = omega arith in ap (λ (n : ℕ). ticks_from n g.next g.state) none
 
 -- and one more is given
 pub one_to_come : (state next last state' : ℕ) (t : Tick) → next ≤ last → t ≡ (tick next state).value → state' ≡ (tick next state).state
-    → to_come (record { state = state; next = next; last = last }) ≡ t ∷ to_come (record { state = state'; next = next + 1; last = last })
+    → ticks_to_come (record { state = state; next = next; last = last }) ≡ t ∷ ticks_to_come (record { state = state'; next = next + 1; last = last })
 unfolding ticks_from
 one_to_come state next last state' t h value after =
     let some : last + 1 - next ≡ suc (last - next) = omega arith in
@@ -127,9 +117,10 @@ one_to_come state next last state' t h value after =
     ∙ ap (λ (n : ℕ). t ∷ ticks_from n (next + 1) state') (sym rest)
 
 -- a small first tick may be written after a head
-pub small_is_next : (audio : ℕ) (t : Tick) → t ≡ record { number = 1; time = 0; idr = 65 ∷ 66 ∷ 67 ∷ []; deltas = []; audio = [] } → IsNext (opened audio) t
+pub small_is_next : (audio : ℕ) (t : Tick) → t ≡ record { number = 1; time = 0; idr = 65 ∷ 66 ∷ 67 ∷ []; deltas = []; audio = [] }
+    → IsNextTick (opened_writing audio) t
 small_is_next audio t is =
-    let Next : Tick → Type 0 = IsNext (opened audio) in
+    let Next : Tick → Type 0 = IsNextTick (opened_writing audio) in
     subst Next (sym is) (record {
       within = record {
         number_is = refl;

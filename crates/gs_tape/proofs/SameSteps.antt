@@ -10,7 +10,7 @@ use Rattle.std.proofs.lemmas.List.Sums.{sum_by-cons}
 use Rattle.gs_tape.specs.Tick.{Tick, Delta, unit_bytes}
 use Rattle.gs_tape.specs.Reading.{Fault, Full, Malformed, ◌>>=◌, unless, bytes_at, number_at, unit_at, deltas_at, audio_at, Before, tick_at}
 use Rattle.gs_tape.proofs.Ticks.{audio_bytes}
-use Rattle.gs_tape.specs.Steps.{Step, gives, then_read, refused, field, number, unit, delta, deltas, sounds, tick}
+use Rattle.gs_tape.specs.Steps.{StepOf, gives, then_read, refused, field, number, unit, delta, deltas, sounds, tick}
 
 pub bind_assoc : {A B C : Type 0} (r : Result A Fault) (f : A → Result B Fault) (g : B → Result C Fault)
     → ((r >>= f) >>= g) ≡ (r >>= (λ x. f x >>= g))
@@ -29,7 +29,7 @@ pub bind_of : {A B : Type 0} (r s : Result A Fault) (f : A → Result B Fault) �
 bind_of r s f e = ap (λ x. x >>= f) e
 
 -- what follows a step and then another
-pub then_bind : {A B C : Type 0} (d : Step A) (f : A → Step B) (m : B × List ℕ → Result C Fault) (size : ℕ) (rest : List ℕ)
+pub then_bind : {A B C : Type 0} (d : StepOf A) (f : A → StepOf B) (m : B × List ℕ → Result C Fault) (size : ℕ) (rest : List ℕ)
     → (then_read d f size rest >>= m) ≡ (d size rest >>= (λ y. f y.0 size y.1 >>= m))
 unfolding then_read
 then_bind d f m size rest = bind_assoc (d size rest) (λ y. f y.0 size y.1) m
@@ -40,7 +40,7 @@ tested true fault x left m = refl
 tested false fault x left m = refl
 
 -- what follows a step that may be refused
-pub refused_bind : {A B : Type 0} (d : Step A) (bad : A → Bool) (fault : A → ℕ → Fault) (m : A × List ℕ → Result B Fault) (size : ℕ) (rest : List ℕ)
+pub refused_bind : {A B : Type 0} (d : StepOf A) (bad : A → Bool) (fault : A → ℕ → Fault) (m : A × List ℕ → Result B Fault) (size : ℕ) (rest : List ℕ)
     → (refused d bad fault size rest >>= m)
     ≡ (d size rest >>= (λ y. unless (bad y.0) (fault y.0 (size - length rest)) (Ok y.1) >>= (λ left. m (y.0, left))))
 unfolding refused

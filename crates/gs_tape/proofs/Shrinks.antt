@@ -5,11 +5,12 @@ use Rattle.std.specs.Prelude.{nat_lt, ◌==◌}
 use Rattle.byteorder.specs.Endian.{little_number}
 use Rattle.gs_tape.specs.Tick.{Tick, Delta, unit_bytes}
 use Rattle.gs_tape.specs.Limits.{most_ticks}
-use Rattle.gs_tape.specs.Reading.{Fault, Malformed, Full, ◌>>=◌, unless, bytes_at, number_at, Before, tick_at, Read, ends_with, with_tick, and_then, ticks_at}
-use Rattle.gs_tape.specs.Steps.{Step, gives, then_read, refused, field, number, unit, delta, deltas, sounds, tick}
+use Rattle.gs_tape.specs.Reading.{Fault, Malformed, Full, ◌>>=◌, unless, bytes_at, number_at, Before, tick_at, ReadTape, ends_with, with_tick, and_then}
+use Rattle.gs_tape.specs.Reading.{ticks_at}
+use Rattle.gs_tape.specs.Steps.{StepOf, gives, then_read, refused, field, number, unit, delta, deltas, sounds, tick}
 use Rattle.gs_tape.proofs.SameSteps.{bind_ok, tick_same, with_held}
 
-record Shrinks {A : Type 0} (d : Step A) : Type 0 where
+record Shrinks {A : Type 0} (d : StepOf A) : Type 0 where
   left : (size : ℕ) (rest : List ℕ) (x : A × List ℕ) → d size rest ≡ Ok x → length x.1 ≤ length rest
 
 passes : {A : Type 0} (bad : Bool) (fault : Fault) (y x : A) → unless bad fault (Ok y) ≡ Ok x → y ≡ x
@@ -24,7 +25,7 @@ gives_shrinks {A = A} x = record {
       omega (arith, ap (λ (z : A × List ℕ). length z.1) same);
 }
 
-then_shrinks : {A B : Type 0} (d : Step A) (f : A → Step B) → Shrinks d → ((x : A) → Shrinks (f x)) → Shrinks (then_read d f)
+then_shrinks : {A B : Type 0} (d : StepOf A) (f : A → StepOf B) → Shrinks d → ((x : A) → Shrinks (f x)) → Shrinks (then_read d f)
 unfolding then_read
 then_shrinks d f first second = record {
   left = λ size rest y e.
@@ -34,7 +35,7 @@ then_shrinks d f first second = record {
       omega (arith, one, two);
 }
 
-refused_shrinks : {A : Type 0} (d : Step A) (bad : A → Bool) (fault : A → ℕ → Fault) → Shrinks d → Shrinks (refused d bad fault)
+refused_shrinks : {A : Type 0} (d : StepOf A) (bad : A → Bool) (fault : A → ℕ → Fault) → Shrinks d → Shrinks (refused d bad fault)
 unfolding refused
 refused_shrinks {A = A} d bad fault h = record {
   left = λ size rest y e.
@@ -100,9 +101,9 @@ tick_left size audio before rest x e =
     let same : ◌≡◌ {A = Tick × (ℕ × List ℕ)} (got.0.0, (before.held + unit_bytes got.0.0, got.0.1)) x = (let h = got.2 in cc) in
     omega (arith, one, ap (λ (z : Tick × (ℕ × List ℕ)). length z.1.1) same)
 
-with_same : (r : Result (Tick × (ℕ × List ℕ)) Fault) (f g : Tick → ℕ → List ℕ → Read)
+with_same : (r : Result (Tick × (ℕ × List ℕ)) Fault) (f g : Tick → ℕ → List ℕ → ReadTape)
     → ((x : Tick × (ℕ × List ℕ)) → r ≡ Ok x → f x.0 x.1.0 x.1.1 ≡ g x.0 x.1.0 x.1.1) → with_tick r f ≡ with_tick r g
-with_same (Ok x) f g h = ap (λ (r : Read). and_then x.0 r) (h x refl)
+with_same (Ok x) f g h = ap (λ (r : ReadTape). and_then x.0 r) (h x refl)
 with_same (Err e) f g h = refl
 
 -- what is read doesn't hang on the number of steps, where they are enough
@@ -117,7 +118,7 @@ enough_steps (suc s) zero size audio before (tag ∷ rest) few few' = absurd (om
 enough_steps (suc s) (suc s') size audio before [] few few' = refl
 enough_steps (suc s) (suc s') size audio before (tag ∷ rest) few few' =
     let after : Tick → ℕ → Before = λ t held. record { number = before.number + 1; time = t.time; held = held } in
-    ap (λ (next : Read). elim (tag == 0x45) [
+    ap (λ (next : ReadTape). elim (tag == 0x45) [
       | true ↦ elim (length rest == 0) [ true ↦ ends_with None | false ↦ ends_with (Some (Malformed 7 (size - length rest))) ]
       | false ↦ elim (tag == 0x54) [
         | true ↦ elim (nat_lt most_ticks before.number) [ true ↦ ends_with (Some (Full before.number)) | false ↦ next ]

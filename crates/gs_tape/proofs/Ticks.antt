@@ -11,8 +11,9 @@ use Rattle.byteorder.specs.Endian.{little_bytes}
 use Rattle.gs_tape.specs.Tick.{Tick, Delta, tick_numbered, unit_bytes}
 use Rattle.gs_tape.specs.Limits.{most_ticks, most_bytes, most_audio, most_count, IsWithinLimits, AreWithinLimits, IsTickWithinLimits, HoldsBytes, AreWritable}
 use Rattle.gs_tape.specs.Capture.{head, unit, delta, tick, file}
-use Rattle.gs_tape.specs.Reading.{Fault, Malformed, Full, AudioLength, unless, number_at, text_at, Head, head_at, unit_at, deltas_at, audio_at, Before, tick_at}
-use Rattle.gs_tape.specs.Reading.{Read, ends_with, with_tick, ticks_at, before_first, read_behind, read, ticks_of, audio_of_head, duration_of_head}
+use Rattle.gs_tape.specs.Reading.{Fault, Malformed, Full, AudioLength, unless, number_at, text_at, CaptureHead, head_at, unit_at, deltas_at, audio_at, Before}
+use Rattle.gs_tape.specs.Reading.{tick_at}
+use Rattle.gs_tape.specs.Reading.{ReadTape, ends_with, with_tick, ticks_at, before_first, read_behind, read_tape, ticks_of, audio_of_head, duration_of_head}
 use Rattle.gs_tape.specs.Reading.{audio_length}
 use Rattle.gs_tape.specs.Laws.{TicksKeepLimits, AudioLengthKeepsLimit, EachTickIsWithinLimits, TicksHoldBytes, FaultlessBytesAreFiles}
 use Rattle.gs_tape.proofs.Results.{Gives, gives_then, gives_unless, gives_weaker}
@@ -164,7 +165,7 @@ abbrev pub end : List ℕ
 end = 0x45 ∷ []
 
 -- The ticks read from here on are within the limits; without a fault, the bytes are theirs and then the end mark.
-record AreTicks (audio : ℕ) (before : Before) (bytes : List ℕ) (r : Read) : Type 0 where
+record AreTicks (audio : ℕ) (before : Before) (bytes : List ℕ) (r : ReadTape) : Type 0 where
   within : AreWithinLimits audio before.number before.time r.ticks
   hold : All HoldsBytes r.ticks
   spelled : r.fault ≡ None → bytes ≡ flat_map tick r.ticks ++ end
@@ -177,7 +178,7 @@ after before t held = record { number = before.number + 1; time = t.time; held =
 no_ticks : (audio : ℕ) (before : Before) (bytes : List ℕ) (fault : Fault) → AreTicks audio before bytes (ends_with (Some fault))
 no_ticks audio before bytes fault = record { within = tt; hold = All-nil HoldsBytes; spelled = λ none. cc; room = λ none. cc }
 
-with_tick_is : (audio : ℕ) (before : Before) (rest : List ℕ) (r : Result (Tick × (ℕ × List ℕ)) Fault) (next : Tick → ℕ → List ℕ → Read)
+with_tick_is : (audio : ℕ) (before : Before) (rest : List ℕ) (r : Result (Tick × (ℕ × List ℕ)) Fault) (next : Tick → ℕ → List ℕ → ReadTape)
     → Gives (IsTick audio before rest) r
     → ((t : Tick) (held : ℕ) (left : List ℕ) → held ≤ most_bytes → AreBytes left → AreTicks audio (after before t held) left (next t held left))
     → AreTicks audio before (0x54 ∷ rest) (with_tick r next)
@@ -194,7 +195,7 @@ with_tick_is audio before rest (Ok x) next h keeps =
     }
 
 -- what the tag of a tick leads to
-abbrev chosen : Bool → Bool → Bool → Bool → Fault → Fault → Fault → Read → Read
+abbrev chosen : Bool → Bool → Bool → Bool → Fault → Fault → Fault → ReadTape → ReadTape
 chosen end empty tag full behind many other next =
     elim end [
       | true ↦ elim empty [ true ↦ ends_with None | false ↦ ends_with (Some behind) ]
@@ -204,7 +205,7 @@ chosen end empty tag full behind many other next =
       ]
     ]
 
-chosen_is : (audio : ℕ) (before : Before) (bytes : List ℕ) (is_end empty tag full : Bool) (behind many other : Fault) (next : Read)
+chosen_is : (audio : ℕ) (before : Before) (bytes : List ℕ) (is_end empty tag full : Bool) (behind many other : Fault) (next : ReadTape)
     → before.held ≤ most_bytes → (is_end ≡ true → empty ≡ true → bytes ≡ end) → (tag ≡ true → full ≡ false → AreTicks audio before bytes next)
     → AreTicks audio before bytes (chosen is_end empty tag full behind many other next)
 chosen_is audio before bytes true true tag full behind many other next room last h =
@@ -225,7 +226,7 @@ ticks_are zero size audio before bytes room are = no_ticks audio before bytes (M
 ticks_are (suc steps) size audio before [] room are = no_ticks audio before [] (Malformed 6 size)
 ticks_are (suc steps) size audio before (tag ∷ rest) room are =
     let behind : AreBytes rest = λ i. are (suc i) in
-    let next : Read = with_tick (tick_at size audio before rest) (λ t held left. ticks_at steps size audio (after before t held) left) in
+    let next : ReadTape = with_tick (tick_at size audio before rest) (λ t held left. ticks_at steps size audio (after before t held) left) in
     let Ticks : ℕ → Type 0 = λ b. AreTicks audio before (b ∷ rest) next in
     chosen_is audio before (tag ∷ rest) (tag == 0x45) (length rest == 0) (tag == 0x54) (nat_lt most_ticks before.number)
     (Malformed 7 (size - length rest)) (Full before.number) (Malformed 2 (size - suc (length rest))) next room
@@ -247,7 +248,7 @@ text_gives size (c ∷ cs) (b ∷ bs) are =
     (λ e. gives_weaker (λ left. (bs ≡ cs ++ left) × AreBytes left) Is (text_at size cs bs) (text_gives size cs bs (λ i. are (suc i)))
     (λ left h. (ap (λ (x : ℕ). x ∷ bs) (eqb-true b c (not-false (b == c) e)) ∙ ap (λ (l : List ℕ). c ∷ l) h.0, h.1)))
 
-pub record IsHead (file : List ℕ) (h : Head × List ℕ) : Type 0 where
+pub record IsHead (file : List ℕ) (h : CaptureHead × List ℕ) : Type 0 where
   pub audio_most : h.0.audio ≤ most_audio
   pub duration_known : (h.0.duration ≡ 5) ⊎ (h.0.duration ≡ 10)
   pub spelled : file ≡ head h.0.audio h.0.duration ++ h.1
@@ -295,14 +296,14 @@ AreBytes-from_All xs all i = elim (cases_lt i (length xs)) [
 ]
 
 -- what is read of a file, by what is read of its head
-record IsReadOf (bytes : List ℕ) (h : Result (Head × List ℕ) Fault) (r : Read) : Type 0 where
+record IsReadOf (bytes : List ℕ) (h : Result (CaptureHead × List ℕ) Fault) (r : ReadTape) : Type 0 where
   within : AreWithinLimits (audio_of_head h) 1 0 r.ticks
   hold : All HoldsBytes r.ticks
   audio_most : audio_of_head h ≤ most_audio
   spelled : r.fault ≡ None → bytes ≡ file (audio_of_head h) (duration_of_head h) r.ticks
   writable : r.fault ≡ None → AreWritable (audio_of_head h) (duration_of_head h) r.ticks
 
-behind_is : (size : ℕ) (bytes : List ℕ) (h : Result (Head × List ℕ) Fault) → Gives (IsHead bytes) h → IsReadOf bytes h (read_behind size h)
+behind_is : (size : ℕ) (bytes : List ℕ) (h : Result (CaptureHead × List ℕ) Fault) → Gives (IsHead bytes) h → IsReadOf bytes h (read_behind size h)
 behind_is size bytes (Err e) is =
     record { within = tt; hold = All-nil HoldsBytes; audio_most = omega arith; spelled = λ none. cc; writable = λ none. cc }
 behind_is size bytes (Ok h) is =
@@ -322,8 +323,8 @@ behind_is size bytes (Ok h) is =
       };
     }
 
-read_is : (bytes : List ℕ) → All (λ b. b < 2 ^ 8) bytes → IsReadOf bytes (head_at (length bytes) bytes) (read bytes)
-unfolding read
+read_is : (bytes : List ℕ) → All (λ b. b < 2 ^ 8) bytes → IsReadOf bytes (head_at (length bytes) bytes) (read_tape bytes)
+unfolding read_tape
 read_is bytes all =
     behind_is (length bytes) bytes (head_at (length bytes) bytes) (head_gives (length bytes) bytes (AreBytes-from_All bytes all))
 

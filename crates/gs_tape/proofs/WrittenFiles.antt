@@ -10,7 +10,7 @@ use Rattle.byteorder.specs.Endian.{little_bytes, little_number}
 use Rattle.gs_tape.specs.Tick.{Tick}
 use Rattle.gs_tape.specs.Capture.{head, unit, delta, tick, file}
 use Rattle.gs_tape.specs.Reading.{Fault, Malformed, Full, AudioLength, unless, number_at, text_at, head_at, most_bytes, most_count, most_ticks, most_audio}
-use Rattle.gs_tape.specs.Reading.{unit_at, deltas_at, audio_at, Before, tick_at, ends_with, and_then, with_tick, ticks_at, before_first, read_behind, read}
+use Rattle.gs_tape.specs.Reading.{unit_at, deltas_at, audio_at, Before, tick_at, ends_with, and_then, with_tick, ticks_at, before_first, read_behind, read_tape}
 use Rattle.gs_tape.specs.Limits.{IsWithinLimits, AreWithinLimits, AreWritable}
 use Rattle.gs_tape.specs.Tick.{unit_bytes}
 use Rattle.gs_tape.proofs.Readings.{delta_bytes}
@@ -116,7 +116,7 @@ duration_fits duration known =
     let Fits : ℕ → Type 0 = λ d. (not (d == 5 || d == 10) ≡ false) × (d < 256) in
     elim known [ inl short ↦ subst Fits (sym short) (refl, omega arith) | inr long ↦ subst Fits (sym long) (refl, omega arith) ]
 
-magic_read : (size : ℕ) (rest : List ℕ) → text_at size (codes "GSTAPE01") (codes "GSTAPE01" ++ rest) ≡ Ok rest
+pub magic_read : (size : ℕ) (rest : List ℕ) → text_at size (codes "GSTAPE01") (codes "GSTAPE01" ++ rest) ≡ Ok rest
 unfolding text_at
 magic_read size rest = refl
 
@@ -137,8 +137,8 @@ head_read size audio duration rest most known =
     (then_ok (number_at size 1 (0 ∷ rest)) (0, rest) _ _ (byte_read size 0 rest (omega arith)) refl)))))
 
 pub files_are_read : (audio duration : ℕ) (ticks : List Tick) → AreWritable audio duration ticks
-    → read (file audio duration ticks) ≡ record { ticks = ticks; fault = None }
-unfolding read
+    → read_tape (file audio duration ticks) ≡ record { ticks = ticks; fault = None }
+unfolding read_tape
 files_are_read audio duration ticks is =
     let bytes = file audio duration ticks in
     let parts : bytes ≡ head audio duration ++ (flat_map tick ticks ++ end) = append_assoc (head audio duration) (flat_map tick ticks) end in

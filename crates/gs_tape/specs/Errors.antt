@@ -21,5 +21,5 @@ fault_of (error.AudioLength length) = Some (AudioLength length)
 fault_of error.OutOfMemory = None
 
 -- what is read there has the fault that the answer tells
-abbrev pub Tells : {A : Type 0} → TapeError → Result A Reading.Fault → Type 0
-Tells e read = IfSome (fault_of e) (λ fault. read ≡ Err fault)
+abbrev pub TellsFault : {A : Type 0} → TapeError → Result A Reading.Fault → Type 0
+TellsFault e read = IfSome (fault_of e) (λ fault. read ≡ Err fault)

@@ -22,12 +22,12 @@ abbrev pub pattern : ℕ → ℕ → List ℕ
 pattern length base = map (λ i. (base + i) % 251) (range_with_len 0 length)
 
 -- a unit of a length, whose base is drawn
-unfoldable pub unit_of : ℕ → ℕ → Drawn (List ℕ)
-unit_of length state = record { value = pattern length (draw state % 251); state = next_state state }
+unfoldable pub drawn_unit : ℕ → ℕ → Drawn (List ℕ)
+drawn_unit length state = record { value = pattern length (draw state % 251); state = next_state state }
 
 -- a unit whose length is drawn, from `least` on, and then its base
 unfoldable pub unit_from : ℕ → ℕ → ℕ → Drawn (List ℕ)
-unit_from least span state = unit_of (least + draw state % span) (next_state state)
+unit_from least span state = drawn_unit (least + draw state % span) (next_state state)
 
 -- one more delta of tick t, against the tick so many before, where there is one
 unfoldable pub with_delta : ℕ → ℕ → Drawn (List Delta) → Drawn (List Delta)
@@ -46,8 +46,8 @@ deltas t state =
 -- one more audio unit
 unfoldable pub with_sound : Drawn (List (List ℕ)) → Drawn (List (List ℕ))
 with_sound so_far = record {
-  value = so_far.value ++ (unit_of generated_audio so_far.state).value ∷ [];
-  state = (unit_of generated_audio so_far.state).state;
+  value = so_far.value ++ (drawn_unit generated_audio so_far.state).value ∷ [];
+  state = (drawn_unit generated_audio so_far.state).state;
 }
 
 -- three audio units, four where t is a multiple of 3
@@ -89,5 +89,5 @@ pub record Generating : Type 0 where
   pub last : ℕ
 
 -- the ticks that it will still give
-abbrev pub to_come : Generating → List Tick
-to_come g = ticks_from (g.last + 1 - g.next) g.next g.state
+abbrev pub ticks_to_come : Generating → List Tick
+ticks_to_come g = ticks_from (g.last + 1 - g.next) g.next g.state

@@ -4,7 +4,7 @@ use Rattle.std.specs.List.{All}
 use Rattle.gs_tape.specs.Tick.{Tick, tick_numbered}
 use Rattle.gs_tape.specs.Limits.{most_audio, AreWithinLimits, IsTickWithinLimits, HoldsBytes, AreWritable}
 use Rattle.gs_tape.specs.Capture.{file}
-use Rattle.gs_tape.specs.Reading.{read, ticks_of, first_fault, audio_length, audio_duration}
+use Rattle.gs_tape.specs.Reading.{read_tape, ticks_of, first_fault, audio_length, audio_duration}
 
 -- the ticks of any bytes are numbered from 1, within the limits
 abbrev pub TicksKeepLimits : Type 0
@@ -26,7 +26,7 @@ TicksHoldBytes = (bytes : List ℕ) → All (λ b. b < 2 ^ 8) bytes → All Hold
 abbrev pub FilesAreRead : Type 0
 FilesAreRead =
     (audio duration : ℕ) (ticks : List Tick) → AreWritable audio duration ticks
-    → read (file audio duration ticks) ≡ record { ticks = ticks; fault = None }
+    → read_tape (file audio duration ticks) ≡ record { ticks = ticks; fault = None }
 
 -- bytes are the file of the ticks that they give, and a file can hold these
 pub record IsFile (bytes : List ℕ) : Type 0 where

@@ -7,6 +7,7 @@ pub mod Errors
 pub mod Steps
 pub mod Streaming
 pub mod Tape
+pub mod Cuts
 pub mod TapeLaws
 pub mod Writer
 pub mod Generated

@@ -1,7 +1,7 @@
 -- The limits of a capture file and of its ticks.
-use Rattle.std.specs.Prelude.{ℕ, ◌≡◌, ◌⊎◌, ◌+◌, ◌^◌, ◌<◌, ◌≤◌, List, [], ◌∷◌, length}
+use Rattle.std.specs.Prelude.{ℕ, ◌≡◌, ◌+◌, ◌^◌, ◌<◌, ◌≤◌, List, [], ◌∷◌, length}
 use Rattle.std.specs.List.{All, sum_by}
-pub use Rattle.gs_bytes.specs.Limits.{most_unit, most_audio, most_generated}
+pub use Rattle.gs_bytes.specs.Limits.{most_unit, most_audio, most_generated, short_duration, long_duration, IsDuration}
 use Rattle.gs_tape.specs.declared.limits.TheConstants.{MOST_TICKS, MOST_BYTES, MOST_COUNT}
 use Rattle.gs_tape.specs.declared.limits.TheConstants.{GENERATED_AUDIO, GENERATED_DURATION}
 use Rattle.gs_tape.specs.Tick.{Tick, Delta, unit_bytes}
@@ -64,6 +64,6 @@ pub record HoldsBytes (t : Tick) : Type 0 where
 -- ticks that a file with this head can hold
 pub record AreWritable (audio duration : ℕ) (ticks : List Tick) : Type 0 where
   pub audio_most : audio ≤ most_audio
-  pub duration_known : (duration ≡ 5) ⊎ (duration ≡ 10)
+  pub duration_known : IsDuration duration
   pub within : AreWithinLimits audio 1 0 ticks
   pub bytes_most : sum_by unit_bytes ticks ≤ most_bytes

@@ -4,6 +4,7 @@ use Rattle.std.specs.Prelude.{take, drop, Option, Some, None, Result, Ok, Err, n
 use Rattle.byteorder.specs.Endian.{little_number}
 use Rattle.gs_tape.specs.Tick.{Tick, Delta}
 pub use Rattle.gs_tape.specs.Limits.{most_ticks, most_bytes, most_unit, most_audio, most_count}
+use Rattle.gs_tape.specs.Limits.{short_duration, long_duration}
 
 -- Why the bytes are no capture file. The place is that of the first byte of the field at fault.
 -- Kinds: 1 the head, 2 a tag, 3 a time below the one before, 4 a count, 5 a named tick,
@@ -39,17 +40,18 @@ text_at size [] rest = Ok rest
 text_at size (c ∷ cs) [] = Err (Malformed 6 size)
 text_at size (c ∷ cs) (b ∷ bs) = unless (not (b == c)) (Malformed 1 (size - suc (length bs))) (text_at size cs bs)
 
-pub record Head : Type 0 where
+pub record CaptureHead : Type 0 where
   pub audio : ℕ
   pub duration : ℕ
 
-unfoldable pub head_at : ℕ → List ℕ → Result (Head × List ℕ) Fault
+unfoldable pub head_at : ℕ → List ℕ → Result (CaptureHead × List ℕ) Fault
 head_at size bytes = do
   behind_magic ← text_at size (codes "GSTAPE01") bytes
   (audio, behind_audio) ← number_at size 2 behind_magic
   known ← unless (nat_lt most_audio audio) (AudioLength audio) (Ok behind_audio)
   (duration, behind_duration) ← number_at size 1 known
-  timed ← unless (not (duration == 5 || duration == 10)) (Malformed 1 (size - length known)) (Ok behind_duration)
+  timed ← unless (not (duration == short_duration || duration == long_duration)) (Malformed 1 (size - length known))
+      (Ok behind_duration)
   (last, behind) ← number_at size 1 timed
   unless (not (last == 0)) (Malformed 1 (size - length timed))
       (Ok (record { audio = audio; duration = duration }, behind))
@@ -114,23 +116,23 @@ tick_at size audio before rest = do
   Ok (record { number = before.number; time = time; idr = idr; deltas = deltas; audio = units }, (held, behind))
 
 -- The ticks that end before the first fault, and that fault where there is one.
-pub record Read : Type 0 where
+pub record ReadTape : Type 0 where
   pub ticks : List Tick
   pub fault : Option Fault
 
-abbrev pub ends_with : Option Fault → Read
+abbrev pub ends_with : Option Fault → ReadTape
 ends_with fault = record { ticks = []; fault = fault }
 
-abbrev pub and_then : Tick → Read → Read
+abbrev pub and_then : Tick → ReadTape → ReadTape
 and_then t r = record { ticks = t ∷ r.ticks; fault = r.fault }
 
 -- the tick, and what the bytes behind it give
-abbrev pub with_tick : Result (Tick × (ℕ × List ℕ)) Fault → (Tick → ℕ → List ℕ → Read) → Read
+abbrev pub with_tick : Result (Tick × (ℕ × List ℕ)) Fault → (Tick → ℕ → List ℕ → ReadTape) → ReadTape
 with_tick (Err e) next = ends_with (Some e)
 with_tick (Ok x) next = and_then x.0 (next x.0 x.1.0 x.1.1)
 
 -- Ticks up to the end mark. Each takes a byte at least, so as many steps as there are bytes are enough.
-unfoldable pub ticks_at : ℕ → ℕ → ℕ → Before → List ℕ → Read
+unfoldable pub ticks_at : ℕ → ℕ → ℕ → Before → List ℕ → ReadTape
 ticks_at zero size audio before rest = ends_with (Some (Malformed 6 size))
 ticks_at (suc steps) size audio before [] = ends_with (Some (Malformed 6 size))
 ticks_at (suc steps) size audio before (tag ∷ rest) =
@@ -153,22 +155,22 @@ ticks_at (suc steps) size audio before (tag ∷ rest) =
 abbrev pub before_first : Before
 before_first = record { number = 1; time = 0; held = 0 }
 
-abbrev pub read_behind : ℕ → Result (Head × List ℕ) Fault → Read
+abbrev pub read_behind : ℕ → Result (CaptureHead × List ℕ) Fault → ReadTape
 read_behind size (Err e) = ends_with (Some e)
 read_behind size (Ok h) = ticks_at size size h.0.audio before_first h.1
 
-unfoldable pub read : List ℕ → Read
-read bytes = read_behind (length bytes) (head_at (length bytes) bytes)
+unfoldable pub read_tape : List ℕ → ReadTape
+read_tape bytes = read_behind (length bytes) (head_at (length bytes) bytes)
 
 -- the ticks that end before the first fault
 abbrev pub ticks_of : List ℕ → List Tick
-ticks_of bytes = (read bytes).ticks
+ticks_of bytes = (read_tape bytes).ticks
 
 abbrev pub first_fault : List ℕ → Option Fault
-first_fault bytes = (read bytes).fault
+first_fault bytes = (read_tape bytes).fault
 
 -- the length of an audio unit, 0 where the head has a fault
-abbrev pub audio_of_head : Result (Head × List ℕ) Fault → ℕ
+abbrev pub audio_of_head : Result (CaptureHead × List ℕ) Fault → ℕ
 audio_of_head (Err e) = 0
 audio_of_head (Ok h) = h.0.audio
 
@@ -176,7 +178,7 @@ abbrev pub audio_length : List ℕ → ℕ
 audio_length bytes = audio_of_head (head_at (length bytes) bytes)
 
 -- the duration of an audio unit in ms, 0 where the head has a fault
-abbrev pub duration_of_head : Result (Head × List ℕ) Fault → ℕ
+abbrev pub duration_of_head : Result (CaptureHead × List ℕ) Fault → ℕ
 duration_of_head (Err e) = 0
 duration_of_head (Ok h) = h.0.duration
 

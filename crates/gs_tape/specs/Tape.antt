@@ -2,7 +2,8 @@
 use Rattle.std.specs.Prelude.{◌≡◌, ◌+◌, ℕ, List, length, Option, Some, None, Result, Ok, Err, IfSome, ⊤}
 use Rattle.gs_reader.specs.Buffered.{to_come}
 use Rattle.gs_tape.specs.Tick.{Tick, unit_bytes}
-use Rattle.gs_tape.specs.Reading.{Before, Fault, Read, and_then, audio_duration, audio_length, ends_with, head_at, read}
+use Rattle.gs_tape.specs.Reading.{Before, Fault, ReadTape, and_then, audio_duration, audio_length, ends_with, head_at}
+use Rattle.gs_tape.specs.Reading.{read_tape}
 use Rattle.gs_tape.specs.Reading.{ticks_at}
 use Rattle.gs_tape.specs.declared.error.TapeError.{TapeError}
 use Rattle.gs_tape.specs.declared.stage.Stage.{Stage}
@@ -10,11 +11,11 @@ use Rattle.gs_tape.specs.declared.stage.Stage.TheVariants.{Open, Ended, Failed}
 use Rattle.gs_tape.specs.Errors.{fault_of}
 
 -- what is read of the rest of a file from a place on, where this is known before its next tick
-abbrev pub reading : ℕ → ℕ → Before → List ℕ → Read
+abbrev pub reading : ℕ → ℕ → Before → List ℕ → ReadTape
 reading place audio before rest = ticks_at (length rest) (place + length rest) audio before rest
 
 -- the same of the bytes to come, where the source tells them
-abbrev pub to_read : ℕ → ℕ → Before → Option (List ℕ) → Option Read
+abbrev pub to_read : ℕ → ℕ → Before → Option (List ℕ) → Option ReadTape
 to_read place audio before None = None
 to_read place audio before (Some rest) = Some (reading place audio before rest)
 
@@ -38,30 +39,30 @@ pub record Opened : Type 0 where
   pub stage : Stage
 
 -- nothing is to be read, behind this fault if one is told
-abbrev pub failed_read : Option Fault → Option Read
+abbrev pub failed_read : Option Fault → Option ReadTape
 failed_read None = None
 failed_read (Some fault) = Some (ends_with (Some fault))
 
-abbrev pub unread_at : Stage → Option Read → Option Read
+abbrev pub unread_at : Stage → Option ReadTape → Option ReadTape
 unread_at Open rest = rest
 unread_at Ended rest = Some (ends_with None)
 unread_at (Failed e) rest = failed_read (fault_of e)
 
 -- what is still to be read of a file, where it is told: its ticks, and the fault behind them if there is one
-abbrev pub unread : Opened → Option (List ℕ) → Option Read
-unread tape left = unread_at tape.stage (to_read tape.place tape.audio tape.before (to_come tape.held left))
+abbrev pub unread_tape : Opened → Option (List ℕ) → Option ReadTape
+unread_tape tape left = unread_at tape.stage (to_read tape.place tape.audio tape.before (to_come tape.held left))
 
 -- The answer is the first of what was to be read: the first tick, with the others still to be read, or the end, or the
 -- fault.
-abbrev pub IsFirst : Option Read → Option Read → Result (Option Tick) TapeError → Type 0
-IsFirst None after r = ⊤
-IsFirst (Some all) after (Ok (Some t)) = (rest : Read) × (after ≡ Some rest) × (all ≡ and_then t rest)
-IsFirst (Some all) after (Ok None) = all ≡ ends_with None
-IsFirst (Some all) after (Err e) = IfSome (fault_of e) (λ fault. all ≡ ends_with (Some fault))
+abbrev pub IsFirstTick : Option ReadTape → Option ReadTape → Result (Option Tick) TapeError → Type 0
+IsFirstTick None after r = ⊤
+IsFirstTick (Some all) after (Ok (Some t)) = (rest : ReadTape) × (after ≡ Some rest) × (all ≡ and_then t rest)
+IsFirstTick (Some all) after (Ok None) = all ≡ ends_with None
+IsFirstTick (Some all) after (Err e) = IfSome (fault_of e) (λ fault. all ≡ ends_with (Some fault))
 
 -- what an opened file is of bytes that the source tells
 pub record OpensAs (bytes : List ℕ) (tape : Opened) (left : Option (List ℕ)) : Type 0 where
-  pub unread_is : unread tape left ≡ Some (read bytes)
+  pub unread_is : unread_tape tape left ≡ Some (read_tape bytes)
   pub audio_is : tape.audio ≡ audio_length bytes
   pub duration_is : tape.duration ≡ audio_duration bytes
 

@@ -14,18 +14,18 @@ write_error Fault = error.WriteFault
 write_error NoMemory = error.OutOfMemory
 
 -- a file with audio units of this length, and what is known before its next tick
-pub record Writing : Type 0 where
+pub record TapeWriting : Type 0 where
   pub audio : ℕ
   pub next : Before
 
 -- a file of which the head was written
-abbrev pub opened : ℕ → Writing
-opened audio = record { audio = audio; next = before_first }
+abbrev pub opened_writing : ℕ → TapeWriting
+opened_writing audio = record { audio = audio; next = before_first }
 
 -- the tick may be written next
-pub record IsNext (w : Writing) (t : Tick) : Type 0 where
+pub record IsNextTick (w : TapeWriting) (t : Tick) : Type 0 where
   pub within : IsWithinLimits w.audio w.next.number w.next.time t
   pub room : w.next.held + unit_bytes t ≤ most_bytes
 
-abbrev pub after_tick : Writing → Tick → Writing
+abbrev pub after_tick : TapeWriting → Tick → TapeWriting
 after_tick w t = record { audio = w.audio; next = known_behind w.next t }

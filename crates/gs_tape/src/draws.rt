@@ -37,8 +37,8 @@ impl Draws {
     // A unit of this length.
     fn unit_of(&mut self, alloc: Global, length: u64) -> Result<Unit, OutOfMemory>
         requires { length < 2 ^ 32 }
-        ensures unit { IfOk result (λ unit. unit ≡ (generated.unit_of length self.old.state).value) }
-        ensures state { OnOk result (self.new.state ≡ (generated.unit_of length self.old.state).state) }
+        ensures unit { IfOk result (λ unit. unit ≡ (generated.drawn_unit length self.old.state).value) }
+        ensures state { OnOk result (self.new.state ≡ (generated.drawn_unit length self.old.state).state) }
     {
         let base = self.draw() % PERIOD;
         pattern(alloc, length, base)
@@ -63,7 +63,9 @@ impl Draws {
         t: u32,
         back: u32,
     ) -> Result<(), OutOfMemory>
-        ensures { let drawn = generated.with_delta t back (record { value = deltas.old.items; state = self.old.state }) in OnOk result ((deltas.new.items ≡ drawn.value) × (self.new.state ≡ drawn.state)) }
+        ensures { let drawn = generated.with_delta t back
+            (record { value = deltas.old.items; state = self.old.state }) in
+            OnOk result ((deltas.new.items ≡ drawn.value) × (self.new.state ≡ drawn.state)) }
     {
         if back >= t {
             return Ok(());
@@ -91,7 +93,8 @@ impl Draws {
 
     // One more audio unit.
     fn add_sound(&mut self, alloc: Global, units: &mut Vec<Unit>) -> Result<(), OutOfMemory>
-        ensures { let drawn = generated.with_sound (record { value = units.old.items; state = self.old.state }) in OnOk result ((units.new.items ≡ drawn.value) × (self.new.state ≡ drawn.state)) }
+        ensures { let drawn = generated.with_sound (record { value = units.old.items; state = self.old.state }) in
+            OnOk result ((units.new.items ≡ drawn.value) × (self.new.state ≡ drawn.state)) }
     {
         let unit = self.unit_of(alloc, GENERATED_AUDIO as u64)?;
         units.push(unit)?;

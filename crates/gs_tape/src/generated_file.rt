@@ -23,8 +23,10 @@ pub fn write_generated<K: Sink>(
     out: &mut K,
 ) -> Result<(), WriteError>
     requires { ticks ≤ most_generated }
-    ensures ok { OnOk result (Appends (K.written out.old) (K.written out.new) (file generated_audio generated_duration (generated number ticks))) }
-    ensures err { OnErr result (AppendsPart (K.written out.old) (K.written out.new) (file generated_audio generated_duration (generated number ticks))) }
+    ensures ok { OnOk result (Appends (K.written out.old) (K.written out.new)
+        (file generated_audio generated_duration (generated number ticks))) }
+    ensures err { OnErr result (AppendsPart (K.written out.old) (K.written out.new)
+        (file generated_audio generated_duration (generated number ticks))) }
     ensures never_falls { K.faults out.old ≤ K.faults out.new }
     ensures fault { IsErrOf result WriteError.WriteFault → Rose (K.faults out.old) (K.faults out.new) }
     ensures counted { K.faults out.new ≢ K.faults out.old → result ≡ Err WriteError.WriteFault }

@@ -33,12 +33,12 @@ impl Model for Generator {
 }
 
 impl Generator {
-    ghost use Rattle.gs_tape.specs.Generated.{generated, to_come};
+    ghost use Rattle.gs_tape.specs.Generated.{generated, ticks_to_come};
 
     /// The generator of a number, which gives so many ticks.
     pub fn new(number: u32, ticks: u32) -> Generator
         requires { ticks ≤ most_generated }
-        ensures { to_come result ≡ generated number ticks }
+        ensures { ticks_to_come result ≡ generated number ticks }
     {
         Generator {
             draws: Draws {
@@ -51,8 +51,9 @@ impl Generator {
 
     /// The next tick, None where all were given.
     pub fn next(&mut self, alloc: Global) -> Result<Option<Tick>, OutOfMemory>
-        ensures tick { IfOk result (λ next. IfSome next (λ tick. to_come self.old ≡ tick ∷ to_come self.new)) }
-        ensures none { IfOk result (λ next. IfNone next (to_come self.old ≡ [])) }
+        ensures tick { IfOk result
+            (λ next. IfSome next (λ tick. ticks_to_come self.old ≡ tick ∷ ticks_to_come self.new)) }
+        ensures none { IfOk result (λ next. IfNone next (ticks_to_come self.old ≡ [])) }
         ensures kept { IfOk result (λ next. IfNone next (self.new ≡ self.old)) }
         ensures err { OnErr result (self.new ≡ self.old) }
     {

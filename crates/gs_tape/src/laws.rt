@@ -1,6 +1,7 @@
 // Laws about what a capture file holds, each proved of the definitions.
 
-ghost use Rattle.gs_tape.specs.Laws.{TicksKeepLimits, AudioLengthKeepsLimit, EachTickIsWithinLimits, TicksHoldBytes, FilesAreRead, FaultlessBytesAreFiles};
+ghost use Rattle.gs_tape.specs.Laws.{TicksKeepLimits, AudioLengthKeepsLimit, EachTickIsWithinLimits, TicksHoldBytes};
+ghost use Rattle.gs_tape.specs.Laws.{FilesAreRead, FaultlessBytesAreFiles};
 
 /// Laws: whatever the bytes, the ticks read from them before the first fault are numbered from 1, their
 /// times never fall and have 32 bits, their units, counts and named ticks are within the limits, and their

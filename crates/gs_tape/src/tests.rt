@@ -13,7 +13,13 @@ const LENGTHS: [usize; 13] = [
 
 // The first tick of a capture, with an IDR unit of three bytes.
 fn first_tick(alloc: Global) -> Result<Tick, Fail>
-    ensures { IfOk result (λ tick. tick ≡ record { number = 1; time = 0; idr = 65 ∷ 66 ∷ 67 ∷ []; deltas = []; audio = [] }) }
+    ensures { IfOk result (λ tick. tick ≡ record {
+      number = 1;
+      time = 0;
+      idr = 65 ∷ 66 ∷ 67 ∷ [];
+      deltas = [];
+      audio = [];
+    }) }
 {
     Ok(Tick {
         number: 1,

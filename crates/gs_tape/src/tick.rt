@@ -24,7 +24,13 @@ impl Model for Tick {
 
     ghost Value = { spec.Tick };
 
-    ghost view = { λ tick. record { number = tick.number; time = tick.time; idr = tick.idr; deltas = tick.deltas; audio = tick.audio } };
+    ghost view = { λ tick. record {
+      number = tick.number;
+      time = tick.time;
+      idr = tick.idr;
+      deltas = tick.deltas;
+      audio = tick.audio;
+    } };
 }
 
 impl Tick {

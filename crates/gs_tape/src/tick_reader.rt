@@ -1,12 +1,15 @@
 // A tick behind its tag, read from a source.
 
-ghost use Rattle.std.specs.Prelude.{◌≡◌, ◌==◌, ◌&&◌, ◌||◌, not, nat_le, nat_lt, ◌+◌, ◌*◌, ◌^◌, ◌<◌, ◌≤◌, IfOk, length};
+ghost use Rattle.std.specs.Prelude.{◌≡◌, ◌==◌, ◌&&◌, ◌||◌, [], not, nat_le, nat_lt, ◌+◌, ◌*◌, ◌^◌, ◌<◌, ◌≤◌, IfOk};
+ghost use Rattle.std.specs.Prelude.{IsErrOf, length};
 ghost use Rattle.std.specs.List.{AllByRecursion, sum_by};
 ghost use Rattle.gs_reader.specs.Buffered.{to_come};
-ghost use Rattle.gs_tape.specs.Limits.{AreDeltasBetween, IsWithinLimits, most_audio, most_bytes, most_count, most_ticks, most_unit};
+ghost use Rattle.gs_tape.specs.Limits.{AreDeltasBetween, IsWithinLimits, most_audio, most_bytes, most_count};
+ghost use Rattle.gs_tape.specs.Limits.{most_ticks, most_unit};
 ghost use Rattle.gs_tape.specs.Tick.{unit_bytes};
-ghost use Rattle.gs_tape.specs.Steps.{delta, delta_count, deltas, before, most_tick, sound_count, sounds, tick, time, unit};
-ghost use Rattle.gs_tape.specs.Streaming.{LeavesSource, Reads};
+ghost use Rattle.gs_tape.specs.Steps.{delta, delta_count, deltas, before, most_tick, sound_count, sounds, tick, time};
+ghost use Rattle.gs_tape.specs.Steps.{unit};
+ghost use Rattle.gs_tape.specs.Streaming.{LeavesSource, ReadsStep};
 
 use crate::cursor::Cursor;
 use crate::delta::{Delta, Deltas};
@@ -33,7 +36,8 @@ impl Known {
     pub fn behind(self, tick: &Tick) -> Known
         requires number { self.number ≤ most_ticks }
         requires room { self.held + unit_bytes tick.now ≤ most_bytes }
-        ensures known { before result.number result.time result.held ≡ known_behind (before self.number self.time self.held) tick.now }
+        ensures known { before result.number result.time result.held
+            ≡ known_behind (before self.number self.time self.held) tick.now }
     {
         Known {
             number: self.number + 1,
@@ -68,10 +72,13 @@ impl Cursor {
     // The time of a tick, no earlier than that of the one before.
     fn time<S: Source>(&mut self, source: &mut S, earliest: u32) -> Result<u32, TapeError>
         requires { self.old.place + 4 < 2 ^ 64 }
-        ensures read { Reads (time earliest) (to_come self.old.reader (S.left source.old)) (to_come self.new.reader (S.left source.new)) self.old.place self.new.place result }
+        ensures read { ReadsStep (time earliest) (to_come self.old.reader (S.left source.old))
+            (to_come self.new.reader (S.left source.new)) self.old.place self.new.place result }
+        ensures spent { IsErrOf result TapeError.TapeFault → self.new.reader ≡ [] }
         ensures place { self.new.place ≤ self.old.place + 4 }
         ensures not_earlier { IfOk result (λ time. earliest ≤ time) }
-        ensures source { LeavesSource (S.faults source.old) (S.faults source.new) (S.met_end source.old) (S.met_end source.new) (S.written source.old) (S.written source.new) result }
+        ensures source { LeavesSource (S.faults source.old) (S.faults source.new) (S.met_end source.old)
+            (S.met_end source.new) (S.written source.old) (S.written source.new) result }
     {
         let place = self.place;
         let time = self.u32(source)?;
@@ -91,12 +98,16 @@ impl Cursor {
         requires place { self.old.place + 1 < 2 ^ 64 }
         requires audio { audio ≤ most_audio }
         requires held { known.held ≤ most_bytes }
-        ensures read { Reads (sound_count audio known.number known.held) (to_come self.old.reader (S.left source.old)) (to_come self.new.reader (S.left source.new)) self.old.place self.new.place result }
+        ensures read { ReadsStep (sound_count audio known.number known.held)
+            (to_come self.old.reader (S.left source.old))
+            (to_come self.new.reader (S.left source.new)) self.old.place self.new.place result }
+        ensures spent { IsErrOf result TapeError.TapeFault → self.new.reader ≡ [] }
         ensures place { self.new.place ≤ self.old.place + 1 }
         ensures most { IfOk result (λ heard. heard ≤ most_count) }
         ensures silent { IfOk result (λ heard. audio ≡ 0 → heard ≡ 0) }
         ensures room { IfOk result (λ heard. known.held + heard * audio ≤ most_bytes) }
-        ensures source { LeavesSource (S.faults source.old) (S.faults source.new) (S.met_end source.old) (S.met_end source.new) (S.written source.old) (S.written source.new) result }
+        ensures source { LeavesSource (S.faults source.old) (S.faults source.new) (S.met_end source.old)
+            (S.met_end source.new) (S.written source.old) (S.written source.new) result }
     {
         let place = self.place;
         let heard = self.u8(source)?;
@@ -112,10 +123,13 @@ impl Cursor {
     // How many deltas a tick has.
     fn delta_count<S: Source>(&mut self, source: &mut S) -> Result<u8, TapeError>
         requires { self.old.place + 1 < 2 ^ 64 }
-        ensures read { Reads delta_count (to_come self.old.reader (S.left source.old)) (to_come self.new.reader (S.left source.new)) self.old.place self.new.place result }
+        ensures read { ReadsStep delta_count (to_come self.old.reader (S.left source.old))
+            (to_come self.new.reader (S.left source.new)) self.old.place self.new.place result }
+        ensures spent { IsErrOf result TapeError.TapeFault → self.new.reader ≡ [] }
         ensures place { self.new.place ≤ self.old.place + 1 }
         ensures most { IfOk result (λ count. count ≤ most_count) }
-        ensures source { LeavesSource (S.faults source.old) (S.faults source.new) (S.met_end source.old) (S.met_end source.new) (S.written source.old) (S.written source.new) result }
+        ensures source { LeavesSource (S.faults source.old) (S.faults source.new) (S.met_end source.old)
+            (S.met_end source.new) (S.written source.old) (S.written source.new) result }
     {
         let place = self.place;
         let count = self.u8(source)?;
@@ -129,11 +143,14 @@ impl Cursor {
     fn unit<S: Source>(&mut self, source: &mut S, tick: u32, held: u64) -> Result<Unit, TapeError>
         requires room { self.old.place + 4 + most_unit < 2 ^ 64 }
         requires held { held ≤ most_bytes }
-        ensures read { Reads (unit tick held) (to_come self.old.reader (S.left source.old)) (to_come self.new.reader (S.left source.new)) self.old.place self.new.place result }
+        ensures read { ReadsStep (unit tick held) (to_come self.old.reader (S.left source.old))
+            (to_come self.new.reader (S.left source.new)) self.old.place self.new.place result }
+        ensures spent { IsErrOf result TapeError.TapeFault → self.new.reader ≡ [] }
         ensures place { self.new.place ≤ self.old.place + 4 + most_unit }
         ensures most { IfOk result (λ unit. length unit ≤ most_unit) }
         ensures room { IfOk result (λ unit. held + length unit ≤ most_bytes) }
-        ensures source { LeavesSource (S.faults source.old) (S.faults source.new) (S.met_end source.old) (S.met_end source.new) (S.written source.old) (S.written source.new) result }
+        ensures source { LeavesSource (S.faults source.old) (S.faults source.new) (S.met_end source.old)
+            (S.met_end source.new) (S.written source.old) (S.written source.new) result }
     {
         let length = self.u32(source)?;
         if length > MOST_UNIT {
@@ -156,12 +173,15 @@ impl Cursor {
     ) -> Result<Delta, TapeError>
         requires room { self.old.place + 8 + most_unit < 2 ^ 64 }
         requires held { held ≤ most_bytes }
-        ensures read { Reads (delta tick after held) (to_come self.old.reader (S.left source.old)) (to_come self.new.reader (S.left source.new)) self.old.place self.new.place result }
+        ensures read { ReadsStep (delta tick after held) (to_come self.old.reader (S.left source.old))
+            (to_come self.new.reader (S.left source.new)) self.old.place self.new.place result }
+        ensures spent { IsErrOf result TapeError.TapeFault → self.new.reader ≡ [] }
         ensures place { self.new.place ≤ self.old.place + 8 + most_unit }
         ensures named { IfOk result (λ delta. (after < delta.named) × (delta.named < tick)) }
         ensures most { IfOk result (λ delta. length delta.unit ≤ most_unit) }
         ensures room { IfOk result (λ delta. held + length delta.unit ≤ most_bytes) }
-        ensures source { LeavesSource (S.faults source.old) (S.faults source.new) (S.met_end source.old) (S.met_end source.new) (S.written source.old) (S.written source.new) result }
+        ensures source { LeavesSource (S.faults source.old) (S.faults source.new) (S.met_end source.old)
+            (S.met_end source.new) (S.written source.old) (S.written source.new) result }
     {
         let place = self.place;
         let named = self.u32(source)?;
@@ -181,12 +201,15 @@ impl Cursor {
     ) -> Result<Deltas, TapeError>
         requires room { self.old.place + count * (8 + most_unit) < 2 ^ 64 }
         requires held { held ≤ most_bytes }
-        ensures read { Reads (deltas count tick 0 held) (to_come self.old.reader (S.left source.old)) (to_come self.new.reader (S.left source.new)) self.old.place self.new.place result }
+        ensures read { ReadsStep (deltas count tick 0 held) (to_come self.old.reader (S.left source.old))
+            (to_come self.new.reader (S.left source.new)) self.old.place self.new.place result }
+        ensures spent { IsErrOf result TapeError.TapeFault → self.new.reader ≡ [] }
         ensures place { self.new.place ≤ self.old.place + count * (8 + most_unit) }
         ensures count { IfOk result (λ ds. length ds ≡ count) }
         ensures between { IfOk result (λ ds. AreDeltasBetween 0 tick ds) }
         ensures room { IfOk result (λ ds. held + sum_by (λ d. length d.unit) ds ≤ most_bytes) }
-        ensures source { LeavesSource (S.faults source.old) (S.faults source.new) (S.met_end source.old) (S.met_end source.new) (S.written source.old) (S.written source.new) result }
+        ensures source { LeavesSource (S.faults source.old) (S.faults source.new) (S.met_end source.old)
+            (S.met_end source.new) (S.written source.old) (S.written source.new) result }
     {
         let mut deltas = Vec::with_capacity(self.alloc, usize::from(count))?;
         let mut after = 0;
@@ -209,11 +232,14 @@ impl Cursor {
     ) -> Result<Units, TapeError>
         requires room { self.old.place + count * most_audio < 2 ^ 64 }
         requires each { each ≤ most_audio }
-        ensures read { Reads (sounds count each) (to_come self.old.reader (S.left source.old)) (to_come self.new.reader (S.left source.new)) self.old.place self.new.place result }
+        ensures read { ReadsStep (sounds count each) (to_come self.old.reader (S.left source.old))
+            (to_come self.new.reader (S.left source.new)) self.old.place self.new.place result }
+        ensures spent { IsErrOf result TapeError.TapeFault → self.new.reader ≡ [] }
         ensures place { self.new.place ≤ self.old.place + count * most_audio }
         ensures count { IfOk result (λ us. length us ≡ count) }
         ensures whole { IfOk result (λ us. AllByRecursion (λ u. length u ≡ each) us) }
-        ensures source { LeavesSource (S.faults source.old) (S.faults source.new) (S.met_end source.old) (S.met_end source.new) (S.written source.old) (S.written source.new) result }
+        ensures source { LeavesSource (S.faults source.old) (S.faults source.new) (S.met_end source.old)
+            (S.met_end source.new) (S.written source.old) (S.written source.new) result }
     {
         let mut units = Vec::with_capacity(self.alloc, usize::from(count))?;
         for _ in 0..count {
@@ -234,11 +260,15 @@ impl Cursor {
         requires audio { audio ≤ most_audio }
         requires held { known.held ≤ most_bytes }
         requires number { known.number ≤ most_ticks }
-        ensures read { Reads (tick audio (before known.number known.time known.held)) (to_come self.old.reader (S.left source.old)) (to_come self.new.reader (S.left source.new)) self.old.place self.new.place result }
+        ensures read { ReadsStep (tick audio (before known.number known.time known.held))
+            (to_come self.old.reader (S.left source.old))
+            (to_come self.new.reader (S.left source.new)) self.old.place self.new.place result }
+        ensures spent { IsErrOf result TapeError.TapeFault → self.new.reader ≡ [] }
         ensures place { self.new.place + 1 ≤ self.old.place + most_tick }
         ensures within { IfOk result (λ t. IsWithinLimits audio known.number known.time t) }
         ensures room { IfOk result (λ t. known.held + unit_bytes t ≤ most_bytes) }
-        ensures source { LeavesSource (S.faults source.old) (S.faults source.new) (S.met_end source.old) (S.met_end source.new) (S.written source.old) (S.written source.new) result }
+        ensures source { LeavesSource (S.faults source.old) (S.faults source.new) (S.met_end source.old)
+            (S.met_end source.new) (S.written source.old) (S.written source.new) result }
     {
         let time = self.time(source, known.time)?;
         let heard = self.sound_count(source, audio, known)?;

@@ -1,10 +1,10 @@
 //! The writer of capture files.
 
-ghost use Rattle.std.specs.Prelude.{◌≡◌, ◌≢◌, ◌⊎◌, ◌≤◌, ◌∷◌, [], IfOk, IsErrOf, OnErr, OnOk};
+ghost use Rattle.std.specs.Prelude.{◌≡◌, ◌≢◌, ◌≤◌, ◌∷◌, [], IfOk, IsErrOf, OnErr, OnOk};
 ghost use Rattle.std.specs.Io.KnownBytes.{Appends, Keeps};
 ghost use Rattle.gs_bytes.specs.Outside.{AppendsPart, KeepsFlag, Rose};
 ghost use Rattle.gs_tape.specs.Capture as capture;
-ghost use Rattle.gs_tape.specs.Limits.{most_audio};
+ghost use Rattle.gs_tape.specs.Limits.{most_audio, IsDuration};
 
 use crate::layout::{END_TAG, head_bytes, tick_bytes};
 use crate::tick::Tick;
@@ -27,9 +27,9 @@ pub struct TapeWriter {
 impl Model for TapeWriter {
     ghost use Rattle.std.specs.Prelude.{◌+◌, ◌≤◌};
     ghost use Rattle.gs_tape.specs.Limits.{most_bytes, most_ticks};
-    ghost use Rattle.gs_tape.specs.Writer.{Writing};
+    ghost use Rattle.gs_tape.specs.Writer.{TapeWriting};
 
-    ghost Value = { Writing };
+    ghost Value = { TapeWriting };
 
     ghost view = { λ w. record { audio = w.audio; next = record { number = w.number; time = w.time; held = w.held } } };
 
@@ -37,7 +37,7 @@ impl Model for TapeWriter {
 }
 
 impl TapeWriter {
-    ghost use Rattle.gs_tape.specs.Writer.{IsNext, after_tick, opened};
+    ghost use Rattle.gs_tape.specs.Writer.{IsNextTick, after_tick, opened_writing};
 
     /// Writes the head of a file with audio units of `audio` bytes and `duration` milliseconds.
     pub fn open<K: Sink>(
@@ -47,8 +47,8 @@ impl TapeWriter {
         out: &mut K,
     ) -> Result<TapeWriter, WriteError>
         requires audio { audio ≤ most_audio }
-        requires duration { (duration ≡ 5) ⊎ (duration ≡ 10) }
-        ensures writer { IfOk result (λ writer. writer ≡ opened audio) }
+        requires duration { IsDuration duration }
+        ensures writer { IfOk result (λ writer. writer ≡ opened_writing audio) }
         ensures ok { OnOk result (Appends (K.written out.old) (K.written out.new) (capture.head audio duration)) }
         ensures err { OnErr result (AppendsPart (K.written out.old) (K.written out.new) (capture.head audio duration)) }
         ensures left { Keeps (K.left out.old) (K.left out.new) }
@@ -71,7 +71,7 @@ impl TapeWriter {
 
     /// Writes the next tick.
     pub fn put<K: Sink>(&mut self, tick: &Tick, out: &mut K) -> Result<(), WriteError>
-        requires { IsNext self.old tick.now }
+        requires { IsNextTick self.old tick.now }
         ensures writer { OnOk result (self.new ≡ after_tick self.old tick.now) }
         ensures ok { OnOk result (Appends (K.written out.old) (K.written out.new) (capture.tick tick.now)) }
         ensures err { OnErr result (AppendsPart (K.written out.old) (K.written out.new) (capture.tick tick.now)) }

@@ -7,8 +7,9 @@ use Rattle.std.proofs.lemmas.Result.{err_from_is_err_and}
 use Rattle.gs_feed.specs.Feeding.{Feeding}
 use Rattle.gs_schedule.specs.declared.step.Step.TheVariants as step
 use Rattle.gs_report.specs.Reporting.{with_reports}
+use Rattle.gs_report.proofs.Reported.{with_none}
 use Rattle.gs_run.specs.CaptureFile.{CaptureFile}
-use Rattle.gs_run.specs.Session.{Part, Session, State, session_numbered, replaced, with_session}
+use Rattle.gs_run.specs.Session.{Part, RunSession, State, session_numbered, replaced, with_session}
 use Rattle.gs_run.specs.Report.{Acted}
 use Rattle.gs_run.specs.Scene.{Scene, scene_of}
 use Rattle.gs_run.specs.Deed.{SessionDeed, Mark, Deed, In}
@@ -18,15 +19,14 @@ use Rattle.gs_run.specs.Done.{Ran, done, ran}
 use Rattle.gs_run.specs.Line.{ArePumpDeeds, GoesOn, pump_deed, pump_deed_in, pumping_from}
 use Rattle.gs_host_end.specs.Outcomes.{IsCapturedOf}
 use Rattle.gs_loopback.specs.declared.session.Loopback.{Loopback}
-use Rattle.gs_loopback.specs.Standing.{StandsFor as IsLoopbackOf}
+use Rattle.gs_loopback.specs.Standing.{IsLoopbackOf}
 use Rattle.gs_loopback.specs.Running.{ran_in, pump_start}
 use Rattle.gs_loopback.specs.Outcomes.{RanAll, Pumped}
 use Rattle.gs_trial.specs.declared.error.StepError.{StepError}
 use Rattle.gs_trial.specs.declared.error.StepError.TheVariants as step_error
 use Rattle.gs_trial.specs.declared.trial.Trial.{Trial}
-use Rattle.gs_trial.specs.Standing.{AreSessions, HasNoSession, IsFeedOf, IsSession, StandsFor}
+use Rattle.gs_trial.specs.Standing.{AreSessions, HasNoSession, IsFeedOf, IsSession, IsTrialOf}
 use Rattle.gs_trial.specs.Stepping.{RanAs, RanTo, RunsDeeds, RunsIn, Steps, StepsIfTold}
-use Rattle.gs_trial.proofs.Texts.{with_none}
 use Rattle.gs_trial.proofs.InSessions.{pumped_deeds, ran_in_session, ran_nowhere, ran_of, with_part}
 use Rattle.gs_trial.proofs.SessionLists.{numbered_at, numbered_none, session_at, session_put, sessions_long}
 
@@ -50,17 +50,17 @@ pub record Changes (old new : Trial) (place : ℕ) (now : Loopback) : Type 0 whe
 
 -- ---- where a session has the number
 
-pub scene_captured : (trial : Trial) (file : CaptureFile) (left : Option (List ℕ)) (state : State) (number : ℕ) → StandsFor trial file left state
+pub scene_captured : (trial : Trial) (file : CaptureFile) (left : Option (List ℕ)) (state : State) (number : ℕ) → IsTrialOf trial file left state
     → IsCapturedOf trial.feed (scene_of file number state)
 scene_captured trial file left state number stands = record { of = stands.feed.stands.is_of; count = stands.captured }
 
 -- the session that stands there
 pub record Found (trial : Trial) (file : CaptureFile) (state : State) (number place : ℕ) (now : Loopback) : Type 0 where
-  pub session : Session
+  pub session : RunSession
   pub at : session_numbered state number ≡ Some session
   pub is : IsSession file.ticks number now session
 
-pub found : (trial : Trial) (file : CaptureFile) (left : Option (List ℕ)) (state : State) (number place : ℕ) (now : Loopback) → StandsFor trial file left state
+pub found : (trial : Trial) (file : CaptureFile) (left : Option (List ℕ)) (state : State) (number place : ℕ) (now : Loopback) → IsTrialOf trial file left state
     → place + 1 ≡ number → place < length trial.sessions.items → now ≡ slice_index_or trial.sessions.items place now → Found trial file state number place now
 found trial file left state number place now stands is within at =
     let f = session_at file.ticks 1 trial.sessions.items state.sessions place now stands.sessions within in
@@ -72,9 +72,9 @@ found trial file left state number place now stands is within at =
     }
 
 -- what its deeds left
-stands_behind : (old new : Trial) (file : CaptureFile) (left : Option (List ℕ)) (state : State) (number place : ℕ) (l : Loopback) (s : Session) (part : Part)
-    → StandsFor old file left state → place + 1 ≡ number → Changes old new place l → s.earlier ≡ [] → IsLoopbackOf l number file.ticks part
-    → StandsFor new file left (with_session number (with_part part s) state)
+stands_behind : (old new : Trial) (file : CaptureFile) (left : Option (List ℕ)) (state : State) (number place : ℕ) (l : Loopback) (s : RunSession) (part : Part)
+    → IsTrialOf old file left state → place + 1 ≡ number → Changes old new place l → s.earlier ≡ [] → IsLoopbackOf l number file.ticks part
+    → IsTrialOf new file left (with_session number (with_part part s) state)
 stands_behind old new file left state number place l s part stands is changes earlier now = record {
   feed = subst (λ (f : Feeding). IsFeedOf f file left) (sym changes.feed) stands.feed;
   captured = ap (λ (f : Feeding). f.count) changes.feed ∙ stands.captured;
@@ -90,7 +90,7 @@ stands_behind old new file left state number place l s part stands is changes ea
 
 ran_as : (old new : Trial) (file : CaptureFile) (left : Option (List ℕ)) (state : State) (number place : ℕ) (l : Loopback) (deeds : List SessionDeed)
     (done : Bool)
-    (s : Session) → StandsFor old file left state → place + 1 ≡ number → Changes old new place l → session_numbered state number ≡ Some s → s.earlier ≡ []
+    (s : RunSession) → IsTrialOf old file left state → place + 1 ≡ number → Changes old new place l → session_numbered state number ≡ Some s → s.earlier ≡ []
     → RanAll (scene_of file number state) deeds s.part done l old.reporter new.reporter
     → RunsDeeds file (map (In number) deeds) state left new old.reporter new.reporter (allowed_as done)
 ran_as old new file left state number place l deeds done s stands is changes at earlier did =
@@ -145,7 +145,7 @@ pub pumps_in : (old new : Trial) (number place every : ℕ) (was now : Loopback)
     → place < length old.sessions.items → was ≡ slice_index_or old.sessions.items place was → Changes old new place now
     → ((scene : Scene) (part : Part) → scene.moment ≡ old.moment → IsLoopbackOf was scene.session scene.ticks part
     → Pumped scene every part done now old.reporter new.reporter)
-    → (file : CaptureFile) (left : Option (List ℕ)) (state : State) → StandsFor old file left state
+    → (file : CaptureFile) (left : Option (List ℕ)) (state : State) → IsTrialOf old file left state
     → StepsIfTold file (step.Pump number every) state left new old.reporter new.reporter r
 pumps_in old new number place every was now done r answer is within at changes did file left state stands =
     let f = found old file left state number place was stands is within at in
@@ -166,7 +166,7 @@ pumps_in old new number place every was now done r answer is within at changes d
 
 -- ---- where none has it
 
-nowhere : (old : Trial) (file : CaptureFile) (left : Option (List ℕ)) (state : State) (number : ℕ) → StandsFor old file left state → HasNoSession old number
+nowhere : (old : Trial) (file : CaptureFile) (left : Option (List ℕ)) (state : State) (number : ℕ) → IsTrialOf old file left state → HasNoSession old number
     → session_numbered state number ≡ None
 nowhere old file left state number stands none =
     let long = sessions_long file.ticks 1 old.sessions.items state.sessions stands.sessions in
@@ -176,7 +176,7 @@ is_bad : (r : Result ⊤ StepError) (e : StepError) → IsErrAnd r (λ y. y ≡ 
 is_bad r e is bad = let f = err_from_is_err_and r is in f.1 ∙ ap (λ (y : StepError). Err y) (f.2 ∙ bad)
 
 ran_none : (old new : Trial) (file : CaptureFile) (left : Option (List ℕ)) (state : State) (number : ℕ) (deed : SessionDeed) (deeds : List Deed)
-    → new.reporter ≡ old.reporter → StandsFor old file left state → HasNoSession old number
+    → new.reporter ≡ old.reporter → IsTrialOf old file left state → HasNoSession old number
     → RunsDeeds file (In number deed ∷ deeds) state left new old.reporter new.reporter (Err step_error.BadLine)
 ran_none old new file left state number deed deeds same stands none =
     let at = nowhere old file left state number stands none in
@@ -192,7 +192,7 @@ runs_nowhere old new number deed deeds r e is bad same = λ file left state stan
 
 pub pumps_nowhere : (old new : Trial) (number every : ℕ) (r : Result ⊤ StepError) (e : StepError)
     → IsErrAnd r (λ y. y ≡ e) → (e ≡ step_error.BadLine) × HasNoSession old number → new.reporter ≡ old.reporter
-    → (file : CaptureFile) (left : Option (List ℕ)) (state : State) → StandsFor old file left state
+    → (file : CaptureFile) (left : Option (List ℕ)) (state : State) → IsTrialOf old file left state
     → StepsIfTold file (step.Pump number every) state left new old.reporter new.reporter r
 unfolding pump_deed
 pumps_nowhere old new number every r e is bad same file left state stands =

@@ -8,7 +8,7 @@ use Rattle.std.proofs.lemmas.Result.{err_from_is_err_and}
 use Rattle.gs_tape.specs.Errors.{fault_of}
 use Rattle.gs_tape.specs.Reading.{Fault}
 use Rattle.gs_tape.specs.declared.error.TapeError.{TapeError}
-use Rattle.gs_feed.specs.Feeding.{Captures, StandsFor as IsReadingOf}
+use Rattle.gs_feed.specs.Feeding.{Captures, IsFeedAt}
 use Rattle.gs_loopback.specs.declared.session.Loopback.{Loopback}
 use Rattle.gs_run.specs.CaptureFile.{CaptureFile}
 use Rattle.gs_run.specs.Session.{State}
@@ -19,10 +19,10 @@ use Rattle.gs_run.specs.Done.{after, ran}
 use Rattle.gs_trial.specs.declared.error.StepError.{StepError}
 use Rattle.gs_trial.specs.declared.error.StepError.TheVariants as step_error
 use Rattle.gs_trial.specs.declared.trial.Trial.{Trial}
-use Rattle.gs_trial.specs.Standing.{AreSessions, StandsFor}
+use Rattle.gs_trial.specs.Standing.{AreSessions, IsTrialOf}
 use Rattle.gs_trial.specs.Stepping.{RanTo, RunsDeeds, refusal_of, refusal_of_tape}
 use Rattle.gs_trial.proofs.OneDeed.{deed_done, deed_refused}
-use Rattle.gs_trial.proofs.Texts.{with_none}
+use Rattle.gs_report.proofs.Reported.{with_none}
 
 test_false : (a b : ℕ) → a ≡ b → nat_lt a b ≡ false
 test_false a b same = by (nat_lt a b) refl
@@ -32,8 +32,8 @@ test_false a b same = by (nat_lt a b) refl
     by false e = refl
 
 -- the next tick was there
-pub captured : (old new : Trial) (file : CaptureFile) (left now : Option (List ℕ)) (state : State) → StandsFor old file left state
-    → old.feed.count < length file.ticks → IsReadingOf new.feed now file.ticks file.fault → new.feed.count ≡ old.feed.count + 1
+pub captured : (old new : Trial) (file : CaptureFile) (left now : Option (List ℕ)) (state : State) → IsTrialOf old file left state
+    → old.feed.count < length file.ticks → IsFeedAt new.feed now file.ticks file.fault → new.feed.count ≡ old.feed.count + 1
     → new.feed.tape.audio ≡ old.feed.tape.audio → new.feed.tape.duration ≡ old.feed.tape.duration
     → new.moment ≡ old.moment → new.sessions.items ≡ old.sessions.items → new.reporter ≡ old.reporter
     → RunsDeeds file (Capture ∷ []) state now new old.reporter new.reporter (Ok tt)
@@ -57,7 +57,7 @@ captured old new file left now state stands less reads count audio duration mome
 
 -- the file's ticks are at their end
 pub at_end : (old new : Trial) (file : CaptureFile) (left now : Option (List ℕ)) (state : State) (e : StepError) (o : Option Fault)
-    → StandsFor old file left state
+    → IsTrialOf old file left state
     → length file.ticks ≡ old.feed.count → file.fault ≡ o → refusal_of e ≡ Some (refusal_at_end o) → new.reporter ≡ old.reporter
     → RunsDeeds file (Capture ∷ []) state now new old.reporter new.reporter (Err e)
 unfolding refusal
@@ -69,7 +69,7 @@ at_end old new file left now state e o stands ended fault tells same =
     deed_refused file Capture state now new old.reporter new.reporter (refusal_at_end o) e refused tells same
 
 -- it has this error
-fails : (old new : Trial) (file : CaptureFile) (left now : Option (List ℕ)) (state : State) (e : TapeError) → StandsFor old file left state
+fails : (old new : Trial) (file : CaptureFile) (left now : Option (List ℕ)) (state : State) (e : TapeError) → IsTrialOf old file left state
     → Captures old.feed.count file.ticks file.fault (Err e) → new.reporter ≡ old.reporter
     → RunsDeeds file (Capture ∷ []) state now new old.reporter new.reporter (Err (step_error.Tape e))
 fails old new file left now state e stands ends same = by (fault_of e) refl ends
@@ -82,7 +82,7 @@ fails old new file left now state e stands ends same = by (fault_of e) refl ends
         at_end old new file left now state (step_error.Tape e) (Some why) stands ends.0 ends.1 (ap refusal_of_tape is) same
 
 pub fails_as : (old new : Trial) (file : CaptureFile) (left now : Option (List ℕ)) (state : State) (e : TapeError) (r : Result ⊤ StepError)
-    → IsErrAnd r (λ y. y ≡ step_error.Tape e) → StandsFor old file left state → Captures old.feed.count file.ticks file.fault (Err e)
+    → IsErrAnd r (λ y. y ≡ step_error.Tape e) → IsTrialOf old file left state → Captures old.feed.count file.ticks file.fault (Err e)
     → new.reporter ≡ old.reporter
     → RunsDeeds file (Capture ∷ []) state now new old.reporter new.reporter r
 fails_as old new file left now state e r is stands ends same =

@@ -8,7 +8,7 @@ use Rattle.gs_command.specs.declared.command.Detail.{Detail}
 use Rattle.gs_command.specs.declared.command.Generated.{Generated}
 use Rattle.gs_command.specs.declared.command.TrialCommand.{TrialCommand}
 use Rattle.gs_command.specs.declared.command.TrialCommand.TheVariants.{Script, Make, Tape}
-use Rattle.gs_command.specs.Words.{at_least_one, command_of, generated_by, generated_of, is_word, number_of, script_of, ticks_of}
+use Rattle.gs_command.specs.Words.{at_least_one, command_of, generated_by, generated_of, is_word, number_in_word, script_of, ticks_in_words}
 
 decimal_few : (most : ℕ) (word : List ℕ) (n : ℕ) → decimal_up_to most word ≡ Some n → n ≤ most
 decimal_few most word n is = by (is_decimal word && nat_le (number_spelled word) most) refl is
@@ -19,7 +19,7 @@ decimal_few most word n is = by (is_decimal word && nat_le (number_spelled word)
         subst (λ (k : ℕ). k ≤ most) same (leb-true (number_spelled word) most (and_parts (is_decimal word) (nat_le (number_spelled word) most) e).1)
     by false e is = absurd cc
 
-number_few : (most : ℕ) (word : List ℕ) (n : ℕ) → number_of most word ≡ Some n → n ≤ most
+number_few : (most : ℕ) (word : List ℕ) (n : ℕ) → number_in_word most word ≡ Some n → n ≤ most
 number_few most word n is = by (decimal_up_to most word) refl is
   where
     by : (o : Option ℕ) → decimal_up_to most word ≡ o → at_least_one o ≡ Some n → n ≤ most
@@ -30,16 +30,16 @@ number_few most word n is = by (decimal_up_to most word) refl is
         some m true is e = absurd cc
         some m false is e = cc
 
-ticks_few : (words : List (List ℕ)) (n : ℕ) → ticks_of words ≡ Some n → n ≤ 2000
+ticks_few : (words : List (List ℕ)) (n : ℕ) → ticks_in_words words ≡ Some n → n ≤ 2000
 ticks_few [] n is = absurd cc
 ticks_few (word ∷ []) n is = number_few 2000 word n is
 ticks_few (word ∷ more ∷ words) n is = absurd cc
 
 generated_few : (words : List (List ℕ)) (g : Generated) → generated_of words ≡ Some g → g.ticks ≤ 2000
 generated_few [] g is = absurd cc
-generated_few (word ∷ words) g is = by (number_of 4294967295 word) (ticks_of words) refl is
+generated_few (word ∷ words) g is = by (number_in_word 4294967295 word) (ticks_in_words words) refl is
   where
-    by : (o p : Option ℕ) → ticks_of words ≡ p → generated_by o p ≡ Some g → g.ticks ≤ 2000
+    by : (o p : Option ℕ) → ticks_in_words words ≡ p → generated_by o p ≡ Some g → g.ticks ≤ 2000
     by None None e is = absurd cc
     by None (Some n) e is = absurd cc
     by (Some m) None e is = absurd cc

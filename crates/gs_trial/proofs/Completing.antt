@@ -1,5 +1,5 @@
 -- A run that ends well is answered so, where no object fails and memory suffices.
-use Rattle.std.proofs.Common.{◌≡◌, ◌≢◌, ◌⊎◌, ℕ, List, Option, Some, None, Result, Ok, Err, refl, sym, ap, subst, ◌∙◌, inl, inr}
+use Rattle.std.proofs.Common.{◌≡◌, ◌≢◌, ◌⊎◌, ◌≤◌, ℕ, List, Option, Some, None, Result, Ok, Err, refl, sym, ap, subst, ◌∙◌, inl, inr}
 use Rattle.std.specs.Prelude.{IfErr, ⊤}
 use Rattle.gs_bytes.specs.Outside.{Rose}
 use Rattle.gs_command.specs.declared.command.Detail.{Detail}
@@ -8,11 +8,11 @@ use Rattle.gs_command.specs.declared.command.TrialCommand.{TrialCommand}
 use Rattle.gs_schedule.specs.Lines.{lines_of}
 use Rattle.gs_schedule.specs.declared.status.TrialStatus.{TrialStatus}
 use Rattle.gs_schedule.specs.declared.status.TrialStatus.TheVariants as status
-use Rattle.gs_run.specs.CaptureFile.{file_of, generated_file}
-use Rattle.gs_run.specs.Generated.{IsGeneratedRun, generated_steps}
+use Rattle.gs_run.specs.CaptureFile.{file_of}
 use Rattle.gs_run.specs.Run.{IsRun, Run}
-use Rattle.gs_run.proofs.OneRun.{schedules_have_one_run, steps_have_one_run}
-use Rattle.gs_trial.specs.Trial.{AnswersIfTold, AnswersMake, AnswersScript, CompletesGenerated, CompletesIfTold, CountsFor, IsCause, WritesRun, answer_of}
+use Rattle.gs_run.proofs.OneRun.{schedules_have_one_run}
+use Rattle.gs_make.proofs.EndingWell.{generated_runs_end_well}
+use Rattle.gs_trial.specs.Trial.{AnswersIfTold, AnswersMake, AnswersScript, CompletesGenerated, CompletesIfTold, CountsFor, IsCause, WritesRun, status_answer}
 
 -- an answer that is the run's own is its status
 other : (run : Run) (answer : TrialStatus) → run.status ≡ status.Ok → run.status ≡ answer → status.Ok ≡ answer
@@ -45,9 +45,9 @@ one_script detail tape schedule old new e cause t s w answers run is ok =
     error_of detail answers.run old new e cause t s w (ap (λ (r : Run). r.status) same ∙ ok) answers.writes
 
 pub completes : (detail : Detail) (tape schedule old new : Option (List ℕ)) (r : Result ⊤ TrialStatus) (t t' s s' w w' : ℕ)
-    → AnswersIfTold detail tape schedule old new (answer_of r) → IfErr r IsCause → CountsFor status.TapeFault r t t'
+    → AnswersIfTold detail tape schedule old new (status_answer r) → IfErr r IsCause → CountsFor status.TapeFault r t t'
     → CountsFor status.ScheduleFault r s s' → CountsFor status.WriteFault r w w'
-    → (Rose t t' → ⊥) → (Rose s s' → ⊥) → (Rose w w' → ⊥) → CompletesIfTold tape schedule (answer_of r)
+    → (Rose t t' → ⊥) → (Rose s s' → ⊥) → (Rose w w' → ⊥) → CompletesIfTold tape schedule (status_answer r)
 completes detail None schedule old new r t t' s s' w w' answers cause tape_counts schedule_counts write_counts no_tape no_schedule no_write = tt
 completes detail (Some tape) None old new r t t' s s' w w' answers cause tape_counts schedule_counts write_counts no_tape no_schedule no_write = tt
 completes detail (Some tape) (Some schedule) old new (Ok done) t t' s s' w w' answers cause tape_counts schedule_counts write_counts
@@ -60,17 +60,17 @@ completes detail (Some tape) (Some schedule) old new (Err e) t t' s s' w w' answ
 
 -- ---- what is generated
 
-pub completes_make : (number ticks : ℕ) (old new : Option (List ℕ)) (r : Result ⊤ TrialStatus) (w w' : ℕ) → AnswersMake number ticks old new (answer_of r)
-    → IfErr r IsCause → IfErr r (λ e. e ≢ status.TapeFault) → IfErr r (λ e. e ≢ status.ScheduleFault) → CountsFor status.WriteFault r w w'
-    → (Rose w w' → ⊥) → (run : Run) → IsGeneratedRun number ticks run → run.status ≡ status.Ok
-    → (answer_of r ≡ status.Ok) ⊎ (answer_of r ≡ status.OutOfMemory)
-completes_make number ticks old new (Ok done) w w' answers cause t s counts no_write run is ok = inl refl
-completes_make number ticks old new (Err e) w w' answers cause t s counts no_write run is ok =
-    let same : answers.run ≡ run = steps_have_one_run (generated_file number ticks) (generated_steps ticks) answers.run run answers.is_run is in
-    error_of Sums answers.run old new e cause t s (λ fault. no_write (counts.0 fault)) (ap (λ (r : Run). r.status) same ∙ ok) answers.writes
+pub completes_make : (number ticks : ℕ) (old new : Option (List ℕ)) (r : Result ⊤ TrialStatus) (w w' : ℕ) → ticks ≤ 2000
+    → AnswersMake number ticks old new (status_answer r) → IfErr r IsCause → IfErr r (λ e. e ≢ status.TapeFault)
+    → IfErr r (λ e. e ≢ status.ScheduleFault) → CountsFor status.WriteFault r w w' → (Rose w w' → ⊥)
+    → (status_answer r ≡ status.Ok) ⊎ (status_answer r ≡ status.OutOfMemory)
+completes_make number ticks old new (Ok done) w w' few answers cause t s counts no_write = inl refl
+completes_make number ticks old new (Err e) w w' few answers cause t s counts no_write =
+    error_of Sums answers.run old new e cause t s (λ fault. no_write (counts.0 fault))
+    (generated_runs_end_well number ticks answers.run few answers.is_run) answers.writes
 
 pub completes_tape : (r : Result ⊤ TrialStatus) (w w' : ℕ) → IfErr r (λ e. (e ≡ status.WriteFault) ⊎ (e ≡ status.OutOfMemory))
-    → CountsFor status.WriteFault r w w' → (Rose w w' → ⊥) → (answer_of r ≡ status.Ok) ⊎ (answer_of r ≡ status.OutOfMemory)
+    → CountsFor status.WriteFault r w w' → (Rose w w' → ⊥) → (status_answer r ≡ status.Ok) ⊎ (status_answer r ≡ status.OutOfMemory)
 completes_tape (Ok done) w w' cause counts no_write = inl refl
 completes_tape (Err e) w w' (inl fault) counts no_write = absurd (no_write (counts.0 fault))
 completes_tape (Err e) w w' (inr memory) counts no_write = inr memory

@@ -9,7 +9,7 @@ use Rattle.gs_bytes.specs.Outside.{AppendsPart}
 use Rattle.gs_schedule.specs.declared.status.TrialStatus.{TrialStatus}
 use Rattle.gs_schedule.specs.declared.status.TrialStatus.TheVariants as status
 use Rattle.gs_run.specs.Generated.{generated_bytes}
-use Rattle.gs_trial.specs.Trial.{AnswersTape, WritesFront, answer_of}
+use Rattle.gs_trial.specs.Trial.{AnswersTape, WritesFront, status_answer}
 use Rattle.gs_trial.proofs.Texts.{front_behind, front_longer}
 
 -- a front of the whole was written, and the rest is left
@@ -58,7 +58,7 @@ shorter n left left' piece is fits some =
 
 pub tape_answers : (number ticks : ℕ) (whole : List ℕ) (a b : Option (List ℕ)) (r : Result ⊤ TrialStatus) → whole ≡ generated_bytes number ticks
     → OnOk r (Appends a b whole)
-    → OnErr r (WritesFront a b whole) → IfErr r (λ e. (e ≡ status.WriteFault) ⊎ (e ≡ status.OutOfMemory)) → AnswersTape number ticks a b (answer_of r)
+    → OnErr r (WritesFront a b whole) → IfErr r (λ e. (e ≡ status.WriteFault) ⊎ (e ≡ status.OutOfMemory)) → AnswersTape number ticks a b (status_answer r)
 tape_answers number ticks whole a b (Ok done) is all front cause = (refl, subst (Appends a b) is all)
 tape_answers number ticks whole a b (Err e) is all front cause =
     let written : WritesFront a b (generated_bytes number ticks) = subst (WritesFront a b) is front in

@@ -1,8 +1,7 @@
 -- How an object's count of faults goes on.
-use Rattle.std.proofs.Common.{◌≡◌, ◌≢◌, ℕ, Bool, Option, Some, None, Result, Err, refl, subst, inl, inr}
+use Rattle.std.proofs.Common.{◌≡◌, ◌≢◌, ℕ, Result, Err, subst, inl, inr}
 use Rattle.std.specs.Prelude.{⊤}
 use Rattle.std.proofs.lemmas.Bool.{cases_eq}
-use Rattle.gs_bytes.specs.Outside.{KeepsFlag}
 use Rattle.gs_schedule.specs.declared.status.TrialStatus.{TrialStatus}
 use Rattle.gs_trial.specs.Trial.{CountsFor}
 
@@ -17,7 +16,3 @@ counts_other cause e a b same other = (λ is. absurd (other is), λ not. absurd 
 -- what a call answers well counts nothing
 pub counts_none : (a b : ℕ) (P : Type 0) → (b ≢ a → P) → (P → ⊥) → b ≡ a
 counts_none a b P counted not = elim (cases_eq b a) [ inl same ↦ same | inr apart ↦ absurd (not (counted apart)) ]
-
-pub keeps_flag : (a : Option Bool) → KeepsFlag a a
-keeps_flag None = tt
-keeps_flag (Some b) = refl

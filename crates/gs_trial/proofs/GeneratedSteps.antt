@@ -9,15 +9,10 @@ use Rattle.gs_input.specs.declared.event.Event.TheVariants.{KeyDown, KeyUp}
 use Rattle.gs_schedule.specs.declared.step.Step.{Step}
 use Rattle.gs_schedule.specs.declared.step.Step.TheVariants.{Session, Input, Pump, Close}
 use Rattle.gs_run.specs.Generated.{generated_steps, key_event, tick_steps}
-use Rattle.gs_trial.specs.Stepping.{IsProper}
+use Rattle.gs_trial.specs.Stepping.{IsStepAllowed}
+use Rattle.gs_bytes.proofs.Lists.{range_more}
 
 -- ---- up to a tick
-
-counted : (a n j : ℕ) → a + n ≡ j → range_with_len a (n + 1) ≡ range_with_len a n ++ j ∷ []
-counted a zero j is = let e : a ≡ j = omega (arith, is) in ap (λ (k : ℕ). k ∷ []) e
-counted a (suc n) j is =
-    let e : suc n + 1 ≡ suc (n + 1) = omega arith in
-    ap (range_with_len a) e ∙ ap (λ (l : List ℕ). a ∷ l) (counted (a + 1) n j (omega (arith, is)))
 
 -- what is pushed up to a tick
 abbrev pub steps_up_to : ℕ → List Step
@@ -27,7 +22,7 @@ pub steps_more : (tick : ℕ) (was now more : List Step) → was ≡ steps_up_to
     → now ≡ steps_up_to (tick + 1)
 steps_more tick was now more before pushed is =
     let whole : flat_map tick_steps (range_with_len 1 (tick + 1)) ≡ flat_map tick_steps (range_with_len 1 tick) ++ tick_steps (tick + 1) =
-    ap (flat_map tick_steps) (counted 1 tick (tick + 1) (omega arith)) ∙ flat_map-append tick_steps (range_with_len 1 tick) ((tick + 1) ∷ []) in
+    ap (flat_map tick_steps) (range_more 1 tick (tick + 1) (omega arith)) ∙ flat_map-append tick_steps (range_with_len 1 tick) ((tick + 1) ∷ []) in
     pushed ∙ ap (λ (l : List Step). l ++ more) before ∙ ap (λ (l : List Step). steps_up_to tick ++ l) is
     ∙ ap (λ (l : List Step). Session 1392 20 2 1 ∷ Session 1392 20 2 1 ∷ l) (sym whole)
 
@@ -41,29 +36,29 @@ steps_all ticks tick was now more end before pushed is =
 
 -- ---- each of them can be run
 
-proper_key : (tick : ℕ) → IsProper (Input 1 (key_event tick))
+proper_key : (tick : ℕ) → IsStepAllowed (Input 1 (key_event tick))
 proper_key tick = by (tick % 2 == 1)
   where
-    by : (b : Bool) → IsProper (Input 1 (cond b (KeyDown (pos 65) 0) (KeyUp (pos 65) 0)))
+    by : (b : Bool) → IsStepAllowed (Input 1 (cond b (KeyDown (pos 65) 0) (KeyUp (pos 65) 0)))
     by true = (tt, tt)
     by false = (tt, tt)
 
-proper_tick : (tick : ℕ) → All IsProper (tick_steps tick)
-proper_tick tick = All-from_recursion IsProper (tick_steps tick) (tt, (tt, (tt, (proper_key tick, (tt, (tt, tt))))))
+proper_tick : (tick : ℕ) → All IsStepAllowed (tick_steps tick)
+proper_tick tick = All-from_recursion IsStepAllowed (tick_steps tick) (tt, (tt, (tt, (proper_key tick, (tt, (tt, tt))))))
 
-proper_ticks : (a n : ℕ) → All IsProper (flat_map tick_steps (range_with_len a n))
-proper_ticks a zero = All-nil IsProper
-proper_ticks a (suc n) = All-append IsProper (tick_steps a) (flat_map tick_steps (range_with_len (a + 1) n)) (proper_tick a) (proper_ticks (a + 1) n)
+proper_ticks : (a n : ℕ) → All IsStepAllowed (flat_map tick_steps (range_with_len a n))
+proper_ticks a zero = All-nil IsStepAllowed
+proper_ticks a (suc n) = All-append IsStepAllowed (tick_steps a) (flat_map tick_steps (range_with_len (a + 1) n)) (proper_tick a) (proper_ticks (a + 1) n)
 
-pub proper_steps : (ticks : ℕ) → All IsProper (generated_steps ticks)
+pub proper_steps : (ticks : ℕ) → All IsStepAllowed (generated_steps ticks)
 unfolding generated_steps
 proper_steps ticks =
     let first : List Step = Session 1392 20 2 1 ∷ Session 1392 20 2 1 ∷ [] in
     let between : List Step = flat_map tick_steps (range_with_len 1 ticks) in
     let last : List Step = Close 1 ∷ Pump 1 0 ∷ Close 2 ∷ Pump 2 0 ∷ [] in
-    All-append IsProper (first ++ between) last
-    (All-append IsProper first between (All-from_recursion IsProper first (tt, (tt, tt))) (proper_ticks 1 ticks))
-    (All-from_recursion IsProper last (tt, (tt, (tt, (tt, tt)))))
+    All-append IsStepAllowed (first ++ between) last
+    (All-append IsStepAllowed first between (All-from_recursion IsStepAllowed first (tt, (tt, tt))) (proper_ticks 1 ticks))
+    (All-from_recursion IsStepAllowed last (tt, (tt, (tt, (tt, tt)))))
 
 -- ---- they are few
 

@@ -6,7 +6,7 @@ use Rattle.std.proofs.Common.{cond}
 use Rattle.std.proofs.lemmas.Simd.{map-map}
 use Rattle.std.specs.List.{range_with_len}
 use Rattle.gs_run.specs.CaptureFile.{CaptureFile}
-use Rattle.gs_run.specs.Session.{Part, Session, State, session_numbered, with_session}
+use Rattle.gs_run.specs.Session.{Part, RunSession, State, session_numbered, with_session}
 use Rattle.gs_run.specs.Report.{Report, Acted}
 use Rattle.gs_run.specs.Scene.{Scene, scene_of}
 use Rattle.gs_run.specs.Deed.{SessionDeed, Turn, TakeVideo, TakeAudio, TakeUp, TakeDown, Give, AskIdr, Close, Reset, Mark, Deed, In}
@@ -18,11 +18,11 @@ use Rattle.gs_loopback.specs.Running.{RanIn, ran_in, then_ran_in, ArePumped, End
 use Rattle.gs_trial.proofs.Replacing.{numbered_got, numbered_twice, numbered_same}
 
 -- the session with this part
-abbrev pub with_part : Part → Session → Session
+abbrev pub with_part : Part → RunSession → RunSession
 with_part part session = record session { part = part }
 
 -- what a session's deeds left, of the whole run
-abbrev pub ran_of : ℕ → State → Session → RanIn → Ran
+abbrev pub ran_of : ℕ → State → RunSession → RanIn → Ran
 ran_of number state session did = record {
   state = with_session number (with_part did.part session) state;
   reports = did.reports;
@@ -31,7 +31,7 @@ ran_of number state session did = record {
 
 -- ---- one deed
 
-done_allowed : (file : CaptureFile) (number : ℕ) (deed : SessionDeed) (state : State) (s : Session) → session_numbered state number ≡ Some s
+done_allowed : (file : CaptureFile) (number : ℕ) (deed : SessionDeed) (state : State) (s : RunSession) → session_numbered state number ≡ Some s
     → is_allowed (scene_of file number state) deed s.part ≡ true
     → done file (In number deed) state ≡ Ok (record {
       value = with_session number (with_part (settled_in (scene_of file number state) deed s.part).value s) state;
@@ -47,13 +47,13 @@ done_allowed file number deed state s is may =
       value = with_session number (with_part did.value s) state;
       reports = did.reports ++ [];
     } =
-    ap (λ (o : Option Session). after_in scene deed o state) is in
+    ap (λ (o : Option RunSession). after_in scene deed o state) is in
     let third : did.reports ++ [] ≡ did.reports = append-nil did.reports in
     ap (λ (o : Option Refusal). unless_refused o (after_in scene deed (session_numbered state number) state)) first
     ∙ ap (λ (a : Acted State). let r : Result (Acted State) Refusal = Ok a in r)
     (second ∙ ap (λ (l : List Report). record { value = with_session number (with_part did.value s) state; reports = l }) third)
 
-done_refused : (file : CaptureFile) (number : ℕ) (deed : SessionDeed) (state : State) (s : Session) → session_numbered state number ≡ Some s
+done_refused : (file : CaptureFile) (number : ℕ) (deed : SessionDeed) (state : State) (s : RunSession) → session_numbered state number ≡ Some s
     → is_allowed (scene_of file number state) deed s.part ≡ false → done file (In number deed) state ≡ Err BadLine
 unfolding refusal
 done_refused file number deed state s is may =
@@ -77,7 +77,7 @@ ran_nowhere file number deed deeds state is =
 
 -- ---- one after the other
 
-pub ran_in_session : (file : CaptureFile) (number : ℕ) (deeds : List SessionDeed) (state : State) (s : Session) → session_numbered state number ≡ Some s
+pub ran_in_session : (file : CaptureFile) (number : ℕ) (deeds : List SessionDeed) (state : State) (s : RunSession) → session_numbered state number ≡ Some s
     → ran file (map (In number) deeds) state ≡ ran_of number state s (ran_in (scene_of file number state) deeds s.part)
 unfolding ran ran_in
 ran_in_session file number [] state s is =
@@ -150,12 +150,12 @@ goes deed scene every pumping part ds IsRest r es R ends may not none = cases de
     cases Close ends may not = Ok_on _ _ ends may not (λ q. GoesOn Close q es R) (λ a x. x) (λ w x. x)
     cases Reset ends may not = Ok_on _ _ ends may not (λ q. GoesOn Reset q es R) (λ a x. x) (λ w x. x)
 
-pump_deed_is : (file : CaptureFile) (number every : ℕ) (pumping : Pumping) (state : State) (s : Session) → session_numbered state number ≡ Some s
+pump_deed_is : (file : CaptureFile) (number every : ℕ) (pumping : Pumping) (state : State) (s : RunSession) → session_numbered state number ≡ Some s
     → pump_deed file number every pumping state ≡ next_pumped every pumping (ends_of (scene_of file number state) s.part)
 unfolding pump_deed
 pump_deed_is file number every pumping state s is = ap (pump_deed_in (scene_of file number state) every pumping) is
 
-pub pumped_deeds : (file : CaptureFile) (number every : ℕ) (pumping : Pumping) (deeds : List SessionDeed) (state : State) (s : Session)
+pub pumped_deeds : (file : CaptureFile) (number every : ℕ) (pumping : Pumping) (deeds : List SessionDeed) (state : State) (s : RunSession)
     → session_numbered state number ≡ Some s → ArePumped (scene_of file number state) every pumping s.part deeds
     → ArePumpDeeds file number every pumping state (map (In number) deeds)
 pumped_deeds file number every pumping [] state s is are = are

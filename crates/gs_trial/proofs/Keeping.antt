@@ -11,19 +11,10 @@ use Rattle.gs_feed.specs.Feeding.{Feeding, forgotten}
 use Rattle.gs_host_end.specs.declared.end.HostEnd.{HostEnd}
 use Rattle.gs_host_end.specs.Outcomes.{KeepsTicks, SentNothing, tick_sent}
 use Rattle.gs_loopback.specs.declared.session.Loopback.{Loopback}
+use Rattle.gs_loopback.proofs.Parts.{still_keeps}
 use Rattle.gs_trial.specs.declared.trial.Trial.{Trial}
 use Rattle.gs_trial.specs.Standing.{IsReady}
 use Rattle.gs_trial.specs.Running.{IsSameButText}
-
--- where no frame was sent
-pub keeps_sent : (feed : Feeding) (old new : HostEnd) → SentNothing old new → KeepsTicks feed old → KeepsTicks feed new
-keeps_sent feed old new sent keeps = record {
-  audio = keeps.audio ∙ sym sent.audio;
-  kept = elim keeps.kept [
-    | inl none ↦ inl (sent.frames ∙ none)
-    | inr still ↦ inr (omega (arith, still, sent.last_tick))
-  ];
-}
 
 -- over another feed, which forgot as much or up to what is wanted
 pub keeps_wanted : (old new : Feeding) (wanted : ℕ) (h : HostEnd) → new.tape.audio ≡ old.tape.audio → forgotten new ≤ max (forgotten old) wanted
@@ -78,4 +69,4 @@ pub ready_sent : (old new : Trial) (place : ℕ) (was now : Loopback) → new.fe
 ready_sent old new place was now feed sessions within at sent ready =
     let keeps : KeepsTicks old.feed was.host =
     subst (λ (l : Loopback). KeepsTicks old.feed l.host) (sym at) (ready.keep place was within) in
-    ready_with old new place now feed sessions (keeps_sent old.feed was.host now.host sent keeps) ready
+    ready_with old new place now feed sessions (still_keeps old.feed was.host now.host sent keeps) ready

@@ -1,9 +1,9 @@
 -- Steps that were run, and those that are left.
-use Rattle.std.proofs.Common.{◌≡◌, ◌+◌, ◌-◌, ◌^◌, ◌||◌, ◌⊎◌, ℕ, Bool, true, false, cond, List, [], ◌∷◌, ◌++◌, length, Option, Some, None}
+use Rattle.std.proofs.Common.{◌≡◌, ◌+◌, ◌-◌, ◌^◌, ◌||◌, ℕ, Bool, true, false, cond, List, [], ◌∷◌, ◌++◌, length, Option, Some, None}
 use Rattle.std.proofs.Common.{Result, Ok, Err, refl, sym, ap, subst, arith, append-nil, append_assoc, inl, inr, ◌∙◌}
 use Rattle.std.specs.Prelude.{MatchBool, nat_lt, ◌==◌}
 use Rattle.std.specs.Io.KnownBytes.{Appends}
-use Rattle.std.proofs.lemmas.Bool.{ltb-true, eqb-true}
+use Rattle.std.proofs.lemmas.Bool.{ltb-true, eqb-true, or_cases}
 use Rattle.gs_feed.specs.Feeding.{Feeding}
 use Rattle.gs_loopback.specs.declared.session.Loopback.{Loopback}
 use Rattle.gs_command.specs.declared.command.Detail.{Detail}
@@ -13,6 +13,7 @@ use Rattle.gs_schedule.specs.declared.status.TrialStatus.{TrialStatus}
 use Rattle.gs_schedule.specs.declared.status.TrialStatus.TheVariants as status
 use Rattle.gs_schedule.specs.Lines.{most_line, next_line}
 use Rattle.gs_report.specs.Reporting.{Reporting, with_reports}
+use Rattle.gs_report.proofs.Reported.{with_none}
 use Rattle.gs_run.specs.CaptureFile.{CaptureFile}
 use Rattle.gs_run.specs.Session.{State}
 use Rattle.gs_run.specs.Report.{Report, text_of}
@@ -22,12 +23,12 @@ use Rattle.gs_run.specs.Done.{Ran, ran}
 use Rattle.gs_run.specs.Line.{AreDeeds, HasStep}
 use Rattle.gs_run.specs.Run.{Run, behind, refusal_status, stopped, RunsFrom, RunsOn}
 use Rattle.gs_trial.specs.declared.trial.Trial.{Trial}
-use Rattle.gs_trial.specs.Standing.{AreSessions, IsFeedOf, StandsFor}
+use Rattle.gs_trial.specs.Standing.{AreSessions, IsFeedOf, IsTrialOf}
 use Rattle.gs_trial.specs.Trial.{is_of_run}
-use Rattle.gs_trial.specs.Running.{EndsRun, EndsStep, IsRefused, IsSameButText, Leads, LedTo, WritesBehind, WritesPart, WritesUpTo, WritesWaiting}
+use Rattle.gs_trial.specs.Running.{EndsRun, EndsStep, IsRunRefused, IsSameButText, Leads, LedTo, WritesBehind, WritesPart, WritesUpTo, WritesWaiting}
 use Rattle.gs_run.proofs.SomeRun.{lines_some}
 use Rattle.gs_bytes.proofs.Cases.{match_more}
-use Rattle.gs_trial.proofs.Texts.{all_behind, more_text, part_longer, part_of, part_on, up_to_none, with_none}
+use Rattle.gs_trial.proofs.Texts.{all_behind, more_text, part_longer, part_of, part_on, up_to_none}
 
 -- ---- what was run
 
@@ -58,7 +59,7 @@ leads_step Has file n x xs s step deeds has are all = record {
 
 -- nothing was run yet
 pub led_none : {A : Type 0} (Has : ℕ → A → Option Step → Type 0) (file : CaptureFile) (n : ℕ) (xs : List A) (s : State) (a : Option (List ℕ)) (trial : Trial)
-    (left : Option (List ℕ)) → StandsFor trial file left s → LedTo Has trial.reporter file n xs s a a n xs trial left
+    (left : Option (List ℕ)) → IsTrialOf trial file left s → LedTo Has trial.reporter file n xs s a a n xs trial left
 led_none Has file n xs s a trial left stands = record {
   reached = s;
   reports = [];
@@ -69,8 +70,8 @@ led_none Has file n xs s a trial left stands = record {
 }
 
 -- another trial of the same
-pub same_stands : (mid new : Trial) (file : CaptureFile) (left : Option (List ℕ)) (state : State) → IsSameButText mid new → StandsFor mid file left state
-    → StandsFor new file left state
+pub same_stands : (mid new : Trial) (file : CaptureFile) (left : Option (List ℕ)) (state : State) → IsSameButText mid new → IsTrialOf mid file left state
+    → IsTrialOf new file left state
 same_stands mid new file left state same stands =
     let items : new.sessions.items ≡ mid.sessions.items = ap (λ v. v.items) same.sessions in
     record {
@@ -135,7 +136,7 @@ ends_bad before file n x xs s a c answer has wrote = record {
 -- the run behind deeds of which one was refused, or of which it isn't known
 step_end : (before : Reporting) (Rest : State → Run → Type 0) → ((t : State) → (run : Run) × Rest t run) → (did : Ran) (refused : Option Refusal) (n : ℕ)
     (a c : Option (List ℕ)) (answer : TrialStatus) (b : Bool) → is_of_run answer ≡ b
-    → MatchBool b (IsRefused n refused answer × Appends a c (with_reports before did.reports).text) (WritesPart answer before did.reports a c)
+    → MatchBool b (IsRunRefused n refused answer × Appends a c (with_reports before did.reports).text) (WritesPart answer before did.reports a c)
     → (run : Run) × RunsOn n refused did Rest run × WritesBehind before run a c answer
 step_end before Rest more did (Some why) n a c answer true eq w =
     let run = behind did.reports (stopped (refusal_status n why) did.state) in
@@ -170,12 +171,8 @@ ends_step Has before file n x xs s step a c answer rest has ends =
 
 -- ---- the next line
 
-either : (a b : Bool) → (a || b) ≡ true → (a ≡ true) ⊎ (b ≡ true)
-either true b e = inl refl
-either false b e = inr e
-
 no_step : (g : ℕ) (line : List ℕ) → (nat_lt most_line (length line) || (g + 1 == 2 ^ 32 - 1)) ≡ true → HasStep (g + 1) line None
-no_step g line test = λ step is. elim (either (nat_lt most_line (length line)) (g + 1 == 2 ^ 32 - 1) test) [
+no_step g line test = λ step is. elim (or_cases (nat_lt most_line (length line)) (g + 1 == 2 ^ 32 - 1) test) [
   | inl long ↦ absurd (omega (arith, is.short, ltb-true most_line (length line) long))
   | inr last ↦ absurd (omega (arith, is.numbered, eqb-true (g + 1) (2 ^ 32 - 1) last))
 ]

@@ -10,7 +10,7 @@ use Rattle.gs_run.specs.Session.{State}
 use Rattle.gs_run.specs.Done.{ran}
 use Rattle.gs_run.specs.Run.{IsStep, Run, RunsFrom}
 use Rattle.gs_trial.specs.declared.trial.Trial.{Trial}
-use Rattle.gs_trial.specs.Standing.{StandsFor}
+use Rattle.gs_trial.specs.Standing.{IsTrialOf}
 use Rattle.gs_trial.specs.Running.{EndsRun, EndsStep, Leads, LedTo, RanStep}
 use Rattle.gs_trial.proofs.Leading.{ends_behind, ends_step, led_none, leads_more, leads_step}
 use Rattle.gs_run.proofs.SomeRun.{from_some}
@@ -28,14 +28,14 @@ left_from (x ∷ steps) (suc k) d within =
     left_from steps k d (omega (arith, within)) ∙ ap (λ (n : ℕ). slice_index_or steps k d ∷ drop n (x ∷ steps)) e
 
 pub steps_start : (file : CaptureFile) (steps : List Step) (state : State) (a : Option (List ℕ)) (trial : Trial) (left : Option (List ℕ))
-    → StandsFor trial file left state → LedTo IsStep trial.reporter file 1 steps state a a 1 steps trial left
+    → IsTrialOf trial file left state → LedTo IsStep trial.reporter file 1 steps state a a 1 steps trial left
 steps_start file steps state a trial left stands = led_none IsStep file 1 steps state a trial left stands
 
 -- the next step was run
 pub steps_next : (before : Reporting) (file : CaptureFile) (steps : List Step) (k : ℕ) (d : Step) (state : State) (a b c : Option (List ℕ)) (trial new : Trial)
     (left left' : Option (List ℕ)) → k < length steps
     → LedTo IsStep before file 1 steps state a b (k + 1) (drop k steps) trial left
-    → ((t : State) → StandsFor trial file left t → RanStep trial.reporter file (slice_index_or steps k d) t b c new left')
+    → ((t : State) → IsTrialOf trial file left t → RanStep trial.reporter file (slice_index_or steps k d) t b c new left')
     → LedTo IsStep before file 1 steps state a c (k + 1 + 1) (drop (k + 1) steps) new left'
 steps_next before file steps k d state a b c trial new left left' within led run =
     let did = run led.reached led.stands in
@@ -59,7 +59,7 @@ steps_next before file steps k d state a b c trial new left left' within led run
 pub steps_end : (before : Reporting) (file : CaptureFile) (steps : List Step) (k : ℕ) (d : Step) (state : State) (a b c : Option (List ℕ)) (trial : Trial)
     (left : Option (List ℕ)) (answer : TrialStatus) → k < length steps
     → LedTo IsStep before file 1 steps state a b (k + 1) (drop k steps) trial left
-    → ((t : State) → StandsFor trial file left t → EndsStep trial.reporter file (k + 1) (slice_index_or steps k d) t b c answer)
+    → ((t : State) → IsTrialOf trial file left t → EndsStep trial.reporter file (k + 1) (slice_index_or steps k d) t b c answer)
     → EndsRun IsStep before file 1 steps state a c answer
 steps_end before file steps k d state a b c trial left answer within led run =
     let there : EndsRun IsStep trial.reporter file (k + 1) (drop k steps) led.reached b c answer =

@@ -5,6 +5,7 @@ use Rattle.std.specs.Prelude.{IfSome, ⊤}
 use Rattle.std.specs.Result.{IsErrAnd}
 use Rattle.std.proofs.lemmas.Result.{err_from_is_err_and}
 use Rattle.gs_report.specs.Reporting.{Reporting, with_reports}
+use Rattle.gs_report.proofs.Reported.{with_none}
 use Rattle.gs_run.specs.CaptureFile.{CaptureFile}
 use Rattle.gs_run.specs.Session.{State}
 use Rattle.gs_run.specs.Report.{Acted, Report}
@@ -14,9 +15,8 @@ use Rattle.gs_run.specs.Done.{Ran, after, done, ran, ran_on, unless_refused}
 use Rattle.gs_trial.specs.declared.error.StepError.{StepError}
 use Rattle.gs_trial.specs.declared.error.StepError.TheVariants as step_error
 use Rattle.gs_trial.specs.declared.trial.Trial.{Trial}
-use Rattle.gs_trial.specs.Standing.{StandsFor}
+use Rattle.gs_trial.specs.Standing.{IsTrialOf}
 use Rattle.gs_trial.specs.Stepping.{RanTo, RanWhole, RunsDeeds, RunsIn, refusal_of}
-use Rattle.gs_trial.proofs.Texts.{with_none}
 
 ran_done : (file : CaptureFile) (deed : Deed) (state : State) (acted : Acted State) → done file deed state ≡ Ok acted
     → ran file (deed ∷ []) state ≡ record { state = acted.value; reports = acted.reports; refused = None }
@@ -32,7 +32,7 @@ ran_refused file deed state why is = ap (λ (r : Result (Acted State) Refusal). 
 
 -- a deed was done
 pub deed_done : (file : CaptureFile) (deed : Deed) (state : State) (left : Option (List ℕ)) (new : Trial) (before : Reporting) (acted : Acted State)
-    → refusal file deed state ≡ None → after file deed state ≡ acted → StandsFor new file left acted.value → new.reporter ≡ with_reports before acted.reports
+    → refusal file deed state ≡ None → after file deed state ≡ acted → IsTrialOf new file left acted.value → new.reporter ≡ with_reports before acted.reports
     → RunsDeeds file (deed ∷ []) state left new before new.reporter (Ok tt)
 deed_done file deed state left new before acted may is stands text =
     let did : done file deed state ≡ Ok acted = ap (λ (o : Option Refusal). unless_refused o (after file deed state)) may

@@ -3,9 +3,9 @@ use Rattle.std.proofs.Common.{List, ℕ}
 use Rattle.gs_schedule.specs.Step.{Spells}
 use Rattle.gs_schedule.specs.declared.step.Step.{Step}
 use Rattle.gs_schedule.specs.declared.step.Step.TheVariants as step
-use Rattle.gs_trial.specs.Stepping.{IsProper}
+use Rattle.gs_trial.specs.Stepping.{IsStepAllowed}
 
-pub proper : (line : List ℕ) (s : Step) → Spells line s → IsProper s
+pub proper : (line : List ℕ) (s : Step) → Spells line s → IsStepAllowed s
 proper line step.Blank spells = tt
 proper line (step.Session packet percentage minimum window) spells = tt
 proper line step.Cap spells = tt

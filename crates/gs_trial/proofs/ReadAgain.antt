@@ -4,22 +4,18 @@ use Rattle.std.specs.Prelude.{codes}
 use Rattle.std.specs.List.{flat_map}
 use Rattle.gs_tape.specs.Tick.{Tick}
 use Rattle.gs_tape.specs.Capture.{head, tick, file}
-use Rattle.gs_tape.specs.Reading.{head_at, text_at, number_at, read, audio_length, audio_duration, audio_of_head, duration_of_head}
+use Rattle.gs_tape.specs.Reading.{head_at, text_at, number_at, read_tape, audio_length, audio_duration, audio_of_head, duration_of_head}
 use Rattle.gs_tape.specs.Generated.{generated}
 use Rattle.gs_tape.proofs.GeneratedWithin.{generated_is_writable}
-use Rattle.gs_tape.proofs.WrittenFiles.{files_are_read}
+use Rattle.gs_tape.proofs.WrittenFiles.{files_are_read, magic_read}
 use Rattle.gs_tape.proofs.Written.{then_ok, number_read}
 use Rattle.byteorder.specs.Endian.{little_bytes}
-
-magic_is : (size : ℕ) (rest : List ℕ) → text_at size (codes "GSTAPE01") (codes "GSTAPE01" ++ rest) ≡ Ok rest
-unfolding text_at
-magic_is size rest = refl
 
 head_is : (size : ℕ) (rest : List ℕ) → head_at size (head 240 5 ++ rest) ≡ Ok (record { audio = 240; duration = 5 }, rest)
 unfolding head_at
 head_is size rest =
     let behind : List ℕ = 5 ∷ 0 ∷ rest in
-    then_ok (text_at size (codes "GSTAPE01") (head 240 5 ++ rest)) (little_bytes 2 240 ++ behind) _ _ (magic_is size (little_bytes 2 240 ++ behind))
+    then_ok (text_at size (codes "GSTAPE01") (head 240 5 ++ rest)) (little_bytes 2 240 ++ behind) _ _ (magic_read size (little_bytes 2 240 ++ behind))
     (then_ok (number_at size 2 (little_bytes 2 240 ++ behind)) (240, behind) _ _ (number_read size 2 240 behind (omega arith))
     (then_ok (number_at size 1 behind) (5, 0 ∷ rest) _ _ (number_read size 1 5 (0 ∷ rest) (omega arith))
     (then_ok (number_at size 1 (0 ∷ rest)) (0, rest) _ _ (number_read size 1 0 rest (omega arith)) refl)))
@@ -28,7 +24,7 @@ pub head_found : (ticks : List Tick) (size : ℕ) → head_at size (file 240 5 t
 head_found ticks size = ap (λ (l : List ℕ). head_at size l) (append_assoc (head 240 5) (flat_map tick ticks) (0x45 ∷ []))
     ∙ head_is size (flat_map tick ticks ++ 0x45 ∷ [])
 
-pub read_again : (number ticks : ℕ) → ticks ≤ 2000 → read (file 240 5 (generated number ticks)) ≡ record { ticks = generated number ticks; fault = None }
+pub read_again : (number ticks : ℕ) → ticks ≤ 2000 → read_tape (file 240 5 (generated number ticks)) ≡ record { ticks = generated number ticks; fault = None }
 read_again number ticks few = files_are_read 240 5 (generated number ticks) (generated_is_writable number ticks few)
 
 pub audio_is : (ticks : List Tick) → audio_length (file 240 5 ticks) ≡ 240

@@ -4,7 +4,7 @@ use Rattle.std.proofs.Common.{◌⊎◌, false, append-nil, refl, sym, ap, subst
 use Rattle.std.specs.Prelude.{IfSome}
 use Rattle.std.specs.Io.KnownBytes.{Appends, IsAtEnd, prepend_known}
 use Rattle.gs_bytes.specs.Outside.{AppendsPart}
-use Rattle.gs_schedule.specs.Lines.{Answers, LinesState, LosesLine, lines_of, most_line, next_line, to_come}
+use Rattle.gs_schedule.specs.Lines.{AnswersLine, LinesState, LosesLine, lines_of, most_line, next_line, lines_to_come}
 use Rattle.gs_schedule.specs.Step.{Spells}
 use Rattle.gs_schedule.specs.declared.line.Line.{Line}
 use Rattle.gs_schedule.specs.declared.lines_error.LinesError.{LinesError}
@@ -19,7 +19,7 @@ use Rattle.gs_run.specs.Done.{ran}
 use Rattle.gs_run.specs.Line.{HasStep}
 use Rattle.gs_run.specs.Run.{stopped}
 use Rattle.gs_trial.specs.declared.trial.Trial.{Trial}
-use Rattle.gs_trial.specs.Standing.{StandsFor}
+use Rattle.gs_trial.specs.Standing.{IsTrialOf}
 use Rattle.gs_trial.specs.Running.{EndsRun, EndsStep, IsSameButText, Leads, LedTo, RanStep, WritesBehind, WritesUpTo, WritesWaiting}
 use Rattle.gs_trial.specs.Trial.{is_of_run}
 use Rattle.gs_trial.proofs.Leading.{ends_bad, ends_behind, ends_front, ends_step, front_of, leads_more, leads_step, led_none, next_bad, next_none, same_stands}
@@ -82,11 +82,11 @@ unwritten_line before number state a b answer cause part =
 pub record LedOn (before : Reporting) (file : CaptureFile) (bytes : List ℕ) (state : State) (a b : Option (List ℕ)) (lines : LinesState)
     (source : Option (List ℕ)) (trial : Trial) (left : Option (List ℕ)) : Type 0 where
   pub rest : List ℕ
-  pub rest_is : to_come lines source ≡ Some rest
+  pub rest_is : lines_to_come lines source ≡ Some rest
   pub led : LedTo HasStep before file 1 (lines_of bytes) state a b (lines.given + 1) (lines_of rest) trial left
 
 pub led_start : (file : CaptureFile) (bytes : List ℕ) (state : State) (a source : Option (List ℕ)) (trial : Trial) (left : Option (List ℕ))
-    → StandsFor trial file left state → source ≡ Some bytes
+    → IsTrialOf trial file left state → source ≡ Some bytes
     → LedOn trial.reporter file bytes state a a (record { given = 0; held = [] }) source trial left
 led_start file bytes state a source trial left stands is = record {
   rest = bytes;
@@ -125,12 +125,12 @@ losing before after rest line is loses = by after (subst (λ (o : Option (List �
 pub led_more : (before : Reporting) (file : CaptureFile) (bytes : List ℕ) (state : State) (a b d : Option (List ℕ)) (lines lines' : LinesState)
     (source source' : Option (List ℕ))
     (trial new : Trial) (left left' : Option (List ℕ)) (line : Line) → LedOn before file bytes state a b lines source trial left
-    → LosesLine (to_come lines source) (to_come lines' source') line.bytes → line.number ≡ lines.given + 1 → lines'.given ≡ line.number
-    → ((t : State) (rest : List (List ℕ)) → StandsFor trial file left t
+    → LosesLine (lines_to_come lines source) (lines_to_come lines' source') line.bytes → line.number ≡ lines.given + 1 → lines'.given ≡ line.number
+    → ((t : State) (rest : List (List ℕ)) → IsTrialOf trial file left t
     → LedTo HasStep trial.reporter file line.number (line.bytes ∷ rest) t b d (line.number + 1) rest new left')
     → LedOn before file bytes state a d lines' source' new left'
 led_more before file bytes state a b d lines lines' source source' trial new left left' line on loses number given run =
-    let l = losing (to_come lines source) (to_come lines' source') on.rest line.bytes on.rest_is loses in
+    let l = losing (lines_to_come lines source) (lines_to_come lines' source') on.rest line.bytes on.rest_is loses in
     let first = on.led in
     let one = run first.reached (lines_of l.0) first.stands in
     let start : Leads HasStep file (lines.given + 1) (lines_of on.rest) first.reached one.reports (lines'.given + 1) (lines_of l.0) one.reached =
@@ -166,12 +166,12 @@ ends_on before file bytes state a b d lines source trial left answer on there =
 pub ends_more : (before : Reporting) (file : CaptureFile) (bytes : List ℕ) (state : State) (a b d : Option (List ℕ)) (lines lines' : LinesState)
     (source source' : Option (List ℕ))
     (trial : Trial) (left : Option (List ℕ)) (line : Line) (answer : TrialStatus) → LedOn before file bytes state a b lines source trial left
-    → LosesLine (to_come lines source) (to_come lines' source') line.bytes → line.number ≡ lines.given + 1
-    → ((t : State) (rest : List (List ℕ)) → StandsFor trial file left t
+    → LosesLine (lines_to_come lines source) (lines_to_come lines' source') line.bytes → line.number ≡ lines.given + 1
+    → ((t : State) (rest : List (List ℕ)) → IsTrialOf trial file left t
     → EndsRun HasStep trial.reporter file line.number (line.bytes ∷ rest) t b d answer)
     → EndsRun HasStep before file 1 (lines_of bytes) state a d answer
 ends_more before file bytes state a b d lines lines' source source' trial left line answer on loses number run =
-    let l = losing (to_come lines source) (to_come lines' source') on.rest line.bytes on.rest_is loses in
+    let l = losing (lines_to_come lines source) (lines_to_come lines' source') on.rest line.bytes on.rest_is loses in
     let first = on.led in
     ends_on before file bytes state a b d lines source trial left answer on
     (subst (λ (n : ℕ). EndsRun HasStep trial.reporter file n (lines_of on.rest) first.reached b d answer) number
@@ -182,13 +182,13 @@ ends_more before file bytes state a b d lines lines' source source' trial left l
 pub led_all : (before : Reporting) (file : CaptureFile) (bytes : List ℕ) (state : State) (a b : Option (List ℕ)) (lines : LinesState)
     (source : Option (List ℕ)) (trial : Trial) (left : Option (List ℕ)) (found : Result (Option Line) LinesError)
     → LedOn before file bytes state a b lines source trial left
-    → IfSome (to_come lines source) (λ rest. Answers found (next_line lines.given (lines_of rest))) → found ≡ Ok None
+    → IfSome (lines_to_come lines source) (λ rest. AnswersLine found (next_line lines.given (lines_of rest))) → found ≡ Ok None
     → (n : ℕ) × LedTo HasStep before file 1 (lines_of bytes) state a b n [] trial left
 led_all before file bytes state a b lines source trial left found on given is =
-    let at : Answers found (next_line lines.given (lines_of on.rest)) =
-    subst (λ (o : Option (List ℕ)). IfSome o (λ rest. Answers found (next_line lines.given (lines_of rest)))) on.rest_is given in
+    let at : AnswersLine found (next_line lines.given (lines_of on.rest)) =
+    subst (λ (o : Option (List ℕ)). IfSome o (λ rest. AnswersLine found (next_line lines.given (lines_of rest)))) on.rest_is given in
     let none : lines_of on.rest ≡ [] = next_none lines.given (lines_of on.rest)
-    (subst (λ (f : Result (Option Line) LinesError). Answers f (next_line lines.given (lines_of on.rest))) is at) in
+    (subst (λ (f : Result (Option Line) LinesError). AnswersLine f (next_line lines.given (lines_of on.rest))) is at) in
     (lines.given + 1, subst (λ (ls : List (List ℕ)). LedTo HasStep before file 1 (lines_of bytes) state a b (lines.given + 1) ls trial left) none on.led)
 
 -- at most what waited was written
@@ -204,13 +204,13 @@ ends_quietly before file bytes state a b d lines source trial left answer not wr
 pub ends_long : (before : Reporting) (file : CaptureFile) (bytes : List ℕ) (state : State) (a b d : Option (List ℕ)) (lines : LinesState)
     (source : Option (List ℕ)) (trial : Trial) (left : Option (List ℕ)) (k : ℕ) (found : Result (Option Line) LinesError) (answer : TrialStatus)
     → LedOn before file bytes state a b lines source trial left
-    → IfSome (to_come lines source) (λ rest. Answers found (next_line lines.given (lines_of rest))) → found ≡ Err (lines_error.TooLong k)
+    → IfSome (lines_to_come lines source) (λ rest. AnswersLine found (next_line lines.given (lines_of rest))) → found ≡ Err (lines_error.TooLong k)
     → ((t : State) → WritesBehind trial.reporter (stopped (status.BadSchedule k) t) b d answer)
     → EndsRun HasStep before file 1 (lines_of bytes) state a d answer
 ends_long before file bytes state a b d lines source trial left k found answer on given is wrote =
     let at : next_line lines.given (lines_of on.rest) ≡ Err k =
-    subst (λ (f : Result (Option Line) LinesError). Answers f (next_line lines.given (lines_of on.rest))) is
-    (subst (λ (o : Option (List ℕ)). IfSome o (λ rest. Answers found (next_line lines.given (lines_of rest)))) on.rest_is given) in
+    subst (λ (f : Result (Option Line) LinesError). AnswersLine f (next_line lines.given (lines_of on.rest))) is
+    (subst (λ (o : Option (List ℕ)). IfSome o (λ rest. AnswersLine found (next_line lines.given (lines_of rest)))) on.rest_is given) in
     let (line, rest, ls, number, none) = next_bad lines.given (lines_of on.rest) k at in
     let t = on.led.reached in
     ends_on before file bytes state a b d lines source trial left answer on

@@ -8,7 +8,7 @@ use Rattle.gs_bytes.specs.Outside.{AppendsPart}
 use Rattle.gs_tape.specs.Reading.{Fault, head_at}
 use Rattle.gs_tape.specs.declared.error.TapeError.{TapeError}
 use Rattle.gs_tape.specs.declared.error.TapeError.TheVariants as tape_error
-use Rattle.gs_feed.specs.Feeding.{EndsWith, Feeding, Opens, OpensAs}
+use Rattle.gs_feed.specs.Feeding.{EndsWithFault, Feeding, OpensFeed, OpensFeedAs}
 use Rattle.gs_command.specs.declared.command.Detail.{Detail}
 use Rattle.gs_schedule.specs.Lines.{lines_of}
 use Rattle.gs_schedule.specs.declared.output.Output.TheVariants as output
@@ -24,10 +24,10 @@ use Rattle.gs_run.specs.Line.{HasStep}
 use Rattle.gs_run.specs.WholeRun.{RunsOverBytesHold}
 use Rattle.gs_run.specs.Run.{IsRun, Run, RunsFrom, RunsUnless, fault_status, finished, stopped}
 use Rattle.gs_trial.specs.declared.trial.Trial.{Trial}
-use Rattle.gs_trial.specs.Standing.{IsFeedOf, StandsFor}
+use Rattle.gs_trial.specs.Standing.{IsFeedOf, IsTrialOf}
 use Rattle.gs_trial.specs.Stepping.{tape_status}
 use Rattle.gs_trial.specs.Running.{EndsRun, LedTo, WritesBehind, WritesWaiting}
-use Rattle.gs_trial.specs.Trial.{AnswersIfTold, AnswersScript, WritesFront, WritesRun, answer_of, is_of_run}
+use Rattle.gs_trial.specs.Trial.{AnswersIfTold, AnswersScript, WritesFront, WritesRun, status_answer, is_of_run}
 use Rattle.gs_trial.proofs.Leading.{by_answer, ends_behind, front_of}
 use Rattle.gs_trial.proofs.Results.{not_of_run, not_of_source}
 use Rattle.gs_run.proofs.SomeRun.{lines_some}
@@ -52,7 +52,7 @@ ended before fault state a b why answer is names of wrote =
     (by_answer before (stopped (fault_status why) state) a b answer true of (names, subst (Appends a b) (sym (append-nil before.text)) wrote))
 
 -- the rest of the file has this error
-pub finish_fails : (before : Reporting) (fault : Option Fault) (state : State) (a b : Option (List ℕ)) (e : TapeError) → EndsWith {A = ⊤} fault (Err e)
+pub finish_fails : (before : Reporting) (fault : Option Fault) (state : State) (a b : Option (List ℕ)) (e : TapeError) → EndsWithFault {A = ⊤} fault (Err e)
     → Appends a b before.text → WritesBehind before (finished fault state) a b (tape_status e)
 finish_fails before fault state a b tape_error.TapeFault ends wrote =
     front_of before (finished fault state) a b status.TapeFault refl wrote
@@ -68,9 +68,9 @@ pub finish_writes : (before here now : Reporting) (fault : Option Fault) (state 
     → Appends a b before.text → here.detail ≡ before.detail → here.text ≡ [] → fault ≡ None
     → now ≡ with_reports here (totals_from 1 state.sessions ++ plain output.Done ∷ []) → OnOk r (Appends b c now.text)
     → OnErr r (AppendsPart b c now.text) → IfErr r (λ e. (e ≡ status.WriteFault) ⊎ (e ≡ status.OutOfMemory))
-    → WritesBehind before (finished fault state) a c (answer_of r)
+    → WritesBehind before (finished fault state) a c (status_answer r)
 finish_writes before here now fault state a b c r first same none whole is wrote part cause =
-    subst (λ (f : Option Fault). WritesBehind before (finished f state) a c (answer_of r)) (sym whole) (by r wrote part cause)
+    subst (λ (f : Option Fault). WritesBehind before (finished f state) a c (status_answer r)) (sym whole) (by r wrote part cause)
   where
     sums : List Report
     sums = totals_from 1 state.sessions ++ plain output.Done ∷ []
@@ -79,7 +79,7 @@ finish_writes before here now fault state a b c r first same none whole is wrote
     text = ap (λ (s : Reporting). s.text) is ∙ ap (λ (l : List ℕ). l ++ text_of here.detail sums) none ∙ ap (λ (d : Detail). text_of d sums) same
 
     by : (r : Result ⊤ TrialStatus) → OnOk r (Appends b c now.text) → OnErr r (AppendsPart b c now.text)
-        → IfErr r (λ e. (e ≡ status.WriteFault) ⊎ (e ≡ status.OutOfMemory)) → WritesBehind before (finished None state) a c (answer_of r)
+        → IfErr r (λ e. (e ≡ status.WriteFault) ⊎ (e ≡ status.OutOfMemory)) → WritesBehind before (finished None state) a c (status_answer r)
     by (Ok done) wrote part cause =
         (refl, Appends-trans a b c before.text (text_of before.detail sums) first (subst (Appends b c) text wrote))
     by (Err e) wrote part cause =
@@ -88,7 +88,7 @@ finish_writes before here now fault state a b c r first same none whole is wrote
 
 -- ---- the head
 
-pub feed_of : (bytes : List ℕ) (feed : Feeding) (left : Option (List ℕ)) → OpensAs bytes feed left → IsFeedOf feed (file_of bytes) left
+pub feed_of : (bytes : List ℕ) (feed : Feeding) (left : Option (List ℕ)) → OpensFeedAs bytes feed left → IsFeedOf feed (file_of bytes) left
 feed_of bytes feed left opens = record {
   head = ap fault_of_head opens.head_is;
   stands = opens.stands;
@@ -135,7 +135,7 @@ headless hold detail bytes lines a why answer is names of =
 
 -- a file that isn't opened
 pub open_fails : RunsOverBytesHold → (detail : Detail) (bytes : List ℕ) (lines : List ℕ) (a left : Option (List ℕ)) (e : TapeError)
-    → Opens (Some bytes) left (Err e) → AnswersScript detail bytes lines a a (tape_status e)
+    → OpensFeed (Some bytes) left (Err e) → AnswersScript detail bytes lines a a (tape_status e)
 open_fails hold detail bytes lines a left tape_error.TapeFault opens = unopened hold detail bytes lines a status.TapeFault refl (Appends-nil a)
 open_fails hold detail bytes lines a left tape_error.OutOfMemory opens = unopened hold detail bytes lines a status.OutOfMemory refl (front_none a [])
 open_fails hold detail bytes lines a left (tape_error.BadTape kind place) opens = headless hold detail bytes lines a _ _ opens refl refl
@@ -154,7 +154,7 @@ ends_script hold detail bytes lines a b answer none ends =
 pub finishes : {A : Type 0} (Has : ℕ → A → Option Step → Type 0) (before : Reporting) (file : CaptureFile) (steps : List A) (from : State)
     (a b c : Option (List ℕ)) (n : ℕ) (trial : Trial) (left : Option (List ℕ)) (answer : TrialStatus)
     → LedTo Has before file 1 steps from a b n [] trial left
-    → ((state : State) → StandsFor trial file left state → WritesBehind trial.reporter (finished file.fault state) b c answer)
+    → ((state : State) → IsTrialOf trial file left state → WritesBehind trial.reporter (finished file.fault state) b c answer)
     → EndsRun Has before file 1 steps from a c answer
 finishes Has before file steps from a b c n trial left answer led ends =
     ends_behind Has before trial.reporter file 1 n steps [] from led.reached led.reports a b c answer led.run led.detail_is led.writes
@@ -163,7 +163,7 @@ finishes Has before file steps from a b c n trial left answer led ends =
 -- ---- what the calls say together
 
 pub script_unopened : RunsOverBytesHold → (detail : Detail) (tape schedule a left : Option (List ℕ)) (e : TapeError) (answer : TrialStatus)
-    → answer ≡ tape_status e → Opens tape left (Err e)
+    → answer ≡ tape_status e → OpensFeed tape left (Err e)
     → AnswersIfTold detail tape schedule a a answer
 script_unopened hold detail None schedule a left e answer is opens = tt
 script_unopened hold detail (Some tape) None a left e answer is opens = tt
@@ -171,9 +171,9 @@ script_unopened hold detail (Some tape) (Some schedule) a left e answer is opens
     subst (AnswersScript detail tape schedule a a) (sym is) (open_fails hold detail tape schedule a left e opens)
 
 pub script_ends : RunsOverBytesHold → (detail : Detail) (before : Reporting) (tape schedule a b left : Option (List ℕ)) (feed : Feeding)
-    (trial : Trial) (answer : TrialStatus) → before ≡ record { detail = detail; text = [] } → Opens tape left (Ok feed)
-    → ((file : CaptureFile) (left : Option (List ℕ)) → IsFeedOf feed file left → StandsFor trial file left start)
-    → ((file : CaptureFile) (state : State) (bytes : List ℕ) → StandsFor trial file left state → schedule ≡ Some bytes
+    (trial : Trial) (answer : TrialStatus) → before ≡ record { detail = detail; text = [] } → OpensFeed tape left (Ok feed)
+    → ((file : CaptureFile) (left : Option (List ℕ)) → IsFeedOf feed file left → IsTrialOf trial file left start)
+    → ((file : CaptureFile) (state : State) (bytes : List ℕ) → IsTrialOf trial file left state → schedule ≡ Some bytes
     → EndsRun HasStep before file 1 (lines_of bytes) state a b answer) → AnswersIfTold detail tape schedule a b answer
 script_ends hold detail before None schedule a b left feed trial answer same opens stands ends = tt
 script_ends hold detail before (Some tape) None a b left feed trial answer same opens stands ends = tt
@@ -185,16 +185,16 @@ script_ends hold detail before (Some tape) (Some schedule) a b left feed trial a
 
 pub script_finishes : RunsOverBytesHold → (detail : Detail) (before : Reporting) (tape schedule a b c left left' : Option (List ℕ)) (feed : Feeding)
     (trial new : Trial) (answer : TrialStatus) → before ≡ record { detail = detail; text = [] }
-    → Opens tape left (Ok feed) → ((file : CaptureFile) (left : Option (List ℕ)) → IsFeedOf feed file left → StandsFor trial file left start)
-    → ((file : CaptureFile) (state : State) (bytes : List ℕ) → StandsFor trial file left state → schedule ≡ Some bytes
+    → OpensFeed tape left (Ok feed) → ((file : CaptureFile) (left : Option (List ℕ)) → IsFeedOf feed file left → IsTrialOf trial file left start)
+    → ((file : CaptureFile) (state : State) (bytes : List ℕ) → IsTrialOf trial file left state → schedule ≡ Some bytes
     → (n : ℕ) × LedTo HasStep before file 1 (lines_of bytes) state a b n [] new left')
-    → ((file : CaptureFile) (state : State) → StandsFor new file left' state → WritesBehind new.reporter (finished file.fault state) b c answer)
+    → ((file : CaptureFile) (state : State) → IsTrialOf new file left' state → WritesBehind new.reporter (finished file.fault state) b c answer)
     → AnswersIfTold detail tape schedule a c answer
 script_finishes hold detail before tape schedule a b c left left' feed trial new answer same opens stands led ends =
     script_ends hold detail before tape schedule a c left feed trial answer same opens stands
     (λ file state bytes there is. by file state bytes (led file state bytes there is) (ends file))
   where
     by : (file : CaptureFile) (state : State) (bytes : List ℕ) → (n : ℕ) × LedTo HasStep before file 1 (lines_of bytes) state a b n [] new left'
-        → ((state : State) → StandsFor new file left' state → WritesBehind new.reporter (finished file.fault state) b c answer)
+        → ((state : State) → IsTrialOf new file left' state → WritesBehind new.reporter (finished file.fault state) b c answer)
         → EndsRun HasStep before file 1 (lines_of bytes) state a c answer
     by file state bytes led ends = finishes HasStep before file (lines_of bytes) state a b c led.0 new left' answer led.1 ends

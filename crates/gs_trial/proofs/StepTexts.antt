@@ -10,6 +10,7 @@ use Rattle.gs_schedule.specs.declared.step.Step.{Step}
 use Rattle.gs_schedule.specs.declared.status.TrialStatus.{TrialStatus}
 use Rattle.gs_schedule.specs.declared.status.TrialStatus.TheVariants as status
 use Rattle.gs_report.specs.Reporting.{Reporting, with_reports}
+use Rattle.gs_report.proofs.Reported.{with_none}
 use Rattle.gs_run.specs.CaptureFile.{CaptureFile}
 use Rattle.gs_run.specs.Session.{State}
 use Rattle.gs_run.specs.Report.{Report, text_of}
@@ -22,13 +23,13 @@ use Rattle.gs_trial.specs.declared.error.StepError.{StepError}
 use Rattle.gs_trial.specs.declared.error.StepError.TheVariants as step_error
 use Rattle.gs_trial.specs.declared.trial.Trial.{Trial}
 use Rattle.gs_trial.specs.Stepping.{RanTo, Steps, StepsIfTold, refusal_of, step_status}
-use Rattle.gs_trial.specs.Running.{EndsStep, IsRefused, IsSameButText, RanStep, WritesPart, WritesUpTo, WritesWaiting}
+use Rattle.gs_trial.specs.Running.{EndsStep, IsRunRefused, IsSameButText, RanStep, WritesPart, WritesUpTo, WritesWaiting}
 use Rattle.gs_trial.specs.Trial.{WritesFront, is_of_run}
 use Rattle.gs_trial.proofs.Leading.{same_stands}
 use Rattle.gs_trial.proofs.Results.{not_of_run, not_of_source}
 use Rattle.gs_run.proofs.SomeRun.{deeds_of}
 use Rattle.gs_bytes.proofs.Cases.{match_more}
-use Rattle.gs_trial.proofs.Texts.{all_behind, front_none, front_part, part_front, part_of, part_on, up_to_more, with_none}
+use Rattle.gs_trial.proofs.Texts.{all_behind, front_none, front_part, part_front, part_of, part_on, up_to_more}
 
 -- what waits now is what waited before the step, and the text of its reports
 text_is : (here now : Reporting) (reports : List Report) → now ≡ with_reports here reports → now.text ≡ (with_reports here reports).text
@@ -81,7 +82,7 @@ pub ends_unknown : (here : Reporting) (file : CaptureFile) (number : ℕ) (step 
 ends_unknown here file number step state a b answer not wrote =
     let d = deeds_of file step state in
     let did = ran file d.0 state in
-    let P = IsRefused number did.refused answer × Appends a b (with_reports here did.reports).text in
+    let P = IsRunRefused number did.refused answer × Appends a b (with_reports here did.reports).text in
     let Q = WritesPart answer here did.reports a b in
     let text : Q = part_of answer here did.reports a b wrote in
     record { deeds = d.0; are_deeds = d.1; writes = subst (λ (x : Bool). MatchBool x P Q) (sym not) text }
@@ -107,7 +108,7 @@ pub ends_part : (mid : Trial) (here : Reporting) (file : CaptureFile) (number : 
     → AppendsPart a b mid.reporter.text → EndsStep here file number step state a b answer
 ends_part mid here file number step state left a b answer s cause part =
     let did = ran file s.deeds state in
-    let P = IsRefused number did.refused answer × Appends a b (with_reports here did.reports).text in
+    let P = IsRunRefused number did.refused answer × Appends a b (with_reports here did.reports).text in
     let Q = WritesPart answer here did.reports a b in
     let front = subst (WritesFront a b) (text_is here mid.reporter did.reports s.ran_as.ran.text) (front_part a b mid.reporter.text part) in
     let text : Q = part_front answer here did.reports a b (not_of_source answer cause) front in
@@ -121,9 +122,9 @@ refused_so : (mid : Trial) (here : Reporting) (file : CaptureFile) (number : ℕ
     → EndsStep here file number step state a b refusal
 refused_so mid here file number step state a b deeds why are to refusal names of wrote =
     let did = ran file deeds state in
-    let P = IsRefused number did.refused refusal × Appends a b (with_reports here did.reports).text in
+    let P = IsRunRefused number did.refused refusal × Appends a b (with_reports here did.reports).text in
     let Q = WritesPart refusal here did.reports a b in
-    let refused : IsRefused number did.refused refusal = subst (λ (o : Option Refusal). IsRefused number o refusal) (sym to.refused_is) names in
+    let refused : IsRunRefused number did.refused refusal = subst (λ (o : Option Refusal). IsRunRefused number o refusal) (sym to.refused_is) names in
     let text = subst (Appends a b) (text_is here mid.reporter did.reports to.text) wrote in
     record { deeds = deeds; are_deeds = are; writes = subst (λ (x : Bool). MatchBool x P Q) (sym of) (refused, text) }
 
@@ -173,7 +174,7 @@ ends_told mid here file number step state left a b answer e is told cause part =
     let did = ran file s.deeds state in
     let text : mid.reporter.text ≡ (with_reports here did.reports).text =
     text_is here mid.reporter did.reports (told_text (refusal_of e) did here mid.reporter told s.ran_as) in
-    let P = IsRefused number did.refused answer × Appends a b (with_reports here did.reports).text in
+    let P = IsRunRefused number did.refused answer × Appends a b (with_reports here did.reports).text in
     let Q = WritesPart answer here did.reports a b in
     let front : Q = part_front answer here did.reports a b (not_of_source answer cause)
     (subst (WritesFront a b) text (front_part a b mid.reporter.text part)) in

@@ -1,14 +1,15 @@
 -- What was run before a read failed.
-use Rattle.std.proofs.Common.{◌≡◌, ◌≢◌, ◌∙◌, ◌++◌, ◌+◌, ◌⊎◌, ℕ, Bool, true, false, List, [], ◌∷◌, Option, Some, None, Result, Ok, Err, refl, sym, ap, subst}
+use Rattle.std.proofs.Common.{◌≡◌, ◌≢◌, ◌∙◌, ◌++◌, ◌+◌, ◌⊎◌, ℕ, true, false, List, [], ◌∷◌, Option, Some, None, Result, Ok, Err, refl, sym, ap, subst}
 use Rattle.std.proofs.Common.{append-nil, inl, inr}
 use Rattle.std.specs.Prelude.{IfErr, ⊤}
 use Rattle.std.specs.Io.KnownBytes.{Appends, Keeps}
 use Rattle.std.proofs.KnownBytes.{Appends-nil, Appends-trans}
+use Rattle.std.proofs.lemmas.Bool.{false_from_ne_true}
 use Rattle.gs_tape.specs.declared.error.TapeError.{TapeError}
 use Rattle.gs_tape.specs.declared.error.TapeError.TheVariants as tape_error
-use Rattle.gs_feed.specs.Feeding.{Feeding, Opens}
+use Rattle.gs_feed.specs.Feeding.{Feeding, OpensFeed}
 use Rattle.gs_command.specs.declared.command.Detail.{Detail}
-use Rattle.gs_schedule.specs.Lines.{LinesState, LosesLine, holds_line, lines_of, to_come}
+use Rattle.gs_schedule.specs.Lines.{LinesState, LosesLine, holds_line, lines_of, lines_to_come}
 use Rattle.gs_schedule.specs.declared.line.Line.{Line}
 use Rattle.gs_schedule.specs.declared.step.Step.TheVariants as step
 use Rattle.gs_schedule.specs.declared.status.TrialStatus.{TrialStatus}
@@ -20,11 +21,11 @@ use Rattle.gs_run.specs.Line.{HasStep}
 use Rattle.gs_trial.specs.declared.error.StepError.{StepError}
 use Rattle.gs_trial.specs.declared.error.StepError.TheVariants as step_error
 use Rattle.gs_trial.specs.declared.trial.Trial.{Trial}
-use Rattle.gs_trial.specs.Standing.{IsFeedOf, StandsFor}
+use Rattle.gs_trial.specs.Standing.{IsFeedOf, IsTrialOf}
 use Rattle.gs_trial.specs.Stepping.{step_status, tape_status}
 use Rattle.gs_trial.specs.Running.{HasLed, LedTo, StopsLines, WritesUpTo}
 use Rattle.gs_trial.specs.Stopping.{HasRun, IsAtCapture, Stops, StopsIfTold}
-use Rattle.gs_trial.specs.Trial.{answer_of, is_of_source}
+use Rattle.gs_trial.specs.Trial.{status_answer, is_of_source}
 use Rattle.gs_trial.proofs.Leading.{leads_none}
 use Rattle.gs_trial.proofs.RunLines.{LedOn, losing}
 use Rattle.gs_trial.proofs.Scripts.{feed_of, new_reporter}
@@ -117,11 +118,11 @@ stops_capture before file lines state unread a b status.OutOfMemory fault not = 
 pub stops_more : (before : Reporting) (file : CaptureFile) (bytes : List ℕ) (state : State) (a b d : Option (List ℕ)) (lines lines' : LinesState)
     (source source' : Option (List ℕ)) (trial : Trial) (left : Option (List ℕ)) (line : Line) (answer : TrialStatus)
     → LedOn before file bytes state a b lines source trial left
-    → LosesLine (to_come lines source) (to_come lines' source') line.bytes → line.number ≡ lines.given + 1
+    → LosesLine (lines_to_come lines source) (lines_to_come lines' source') line.bytes → line.number ≡ lines.given + 1
     → (answer ≡ status.TapeFault → HasStep line.number line.bytes (Some step.Cap) × Appends b d trial.reporter.text) → answer ≢ status.ScheduleFault
     → StopsLines before file (lines_of bytes) state source' a d answer
 stops_more before file bytes state a b d lines lines' source source' trial left line answer on loses number fault not =
-    let l = losing (to_come lines source) (to_come lines' source') on.rest line.bytes on.rest_is loses in
+    let l = losing (lines_to_come lines source) (lines_to_come lines' source') on.rest line.bytes on.rest_is loses in
     stops_capture before file (lines_of bytes) state source' a d answer (λ is.
     let at : HasStep (lines.given + 1) line.bytes (Some step.Cap) = subst (λ (n : ℕ). HasStep n line.bytes (Some step.Cap)) number (fault is).0 in (
       lines.given + 1,
@@ -130,14 +131,10 @@ stops_more before file bytes state a b d lines lines' source source' trial left 
       led_here before file (lines_of bytes) state a b d (lines.given + 1) (lines_of on.rest) trial left on.led (fault is).1,
     )) not
 
-false_from : (b : Bool) → (b ≡ true → ⊥) → b ≡ false
-false_from true not = absurd (not refl)
-false_from false not = refl
-
 -- the next line can't be read
 pub stops_read : (before : Reporting) (file : CaptureFile) (bytes : List ℕ) (state : State) (a b : Option (List ℕ)) (lines lines' : LinesState)
     (source source' : Option (List ℕ)) (trial : Trial) (left : Option (List ℕ)) → LedOn before file bytes state a b lines source trial left
-    → trial.reporter.text ≡ [] → Keeps (to_come lines source) (to_come lines' source') → (holds_line lines'.held ≡ true → ⊥)
+    → trial.reporter.text ≡ [] → Keeps (lines_to_come lines source) (lines_to_come lines' source') → (holds_line lines'.held ≡ true → ⊥)
     → StopsLines before file (lines_of bytes) state source' a b status.ScheduleFault
 stops_read before file bytes state a b lines lines' source None trial left on empty keeps not = tt
 stops_read before file bytes state a b lines lines' source (Some unread) trial left on empty keeps not =
@@ -146,7 +143,7 @@ stops_read before file bytes state a b lines lines' source (Some unread) trial l
     let none : Appends b b trial.reporter.text = subst (Appends b b) (sym empty) (Appends-nil b) in (
       lines.given + 1,
       lines'.held,
-      false_from (holds_line lines'.held) not,
+      false_from_ne_true (holds_line lines'.held) not,
       subst (λ (l : List ℕ). HasLed before file (lines_of bytes) state (lines.given + 1) (lines_of l) a b) (sym same)
           (led_here before file (lines_of bytes) state a b b (lines.given + 1) (lines_of on.rest) trial left on.led none),
     )
@@ -155,7 +152,7 @@ stops_read before file bytes state a b lines lines' source (Some unread) trial l
 stops_behind : (before : Reporting) (file : CaptureFile) (lines : List (List ℕ)) (state : State) (unread a b c : Option (List ℕ)) (n : ℕ)
     (trial : Trial) (left : Option (List ℕ)) (r : Result ⊤ TrialStatus) → LedTo HasStep before file 1 lines state a b n [] trial left
     → IfErr r (λ e. e ≡ status.TapeFault → Appends b c trial.reporter.text) → IfErr r (λ e. e ≢ status.ScheduleFault)
-    → StopsLines before file lines state unread a c (answer_of r)
+    → StopsLines before file lines state unread a c (status_answer r)
 stops_behind before file lines state unread a b c n trial left (Ok done) led wrote not = tt
 stops_behind before file lines state unread a b c n trial left (Err e) led wrote not =
     stops_capture before file lines state unread a c e
@@ -206,9 +203,9 @@ stops_unopened detail (Some tape) (Some schedule) unread a e answer is =
     subst (Stops detail (file_of tape) (lines_of schedule) unread a a) (sym is) (unopened detail (file_of tape) (lines_of schedule) unread a e)
 
 pub script_stops : (detail : Detail) (before : Reporting) (tape schedule unread a b left : Option (List ℕ)) (feed : Feeding)
-    (trial : Trial) (answer : TrialStatus) → before ≡ record { detail = detail; text = [] } → Opens tape left (Ok feed)
-    → ((file : CaptureFile) (left : Option (List ℕ)) → IsFeedOf feed file left → StandsFor trial file left start)
-    → ((file : CaptureFile) (state : State) (bytes : List ℕ) → StandsFor trial file left state → schedule ≡ Some bytes
+    (trial : Trial) (answer : TrialStatus) → before ≡ record { detail = detail; text = [] } → OpensFeed tape left (Ok feed)
+    → ((file : CaptureFile) (left : Option (List ℕ)) → IsFeedOf feed file left → IsTrialOf trial file left start)
+    → ((file : CaptureFile) (state : State) (bytes : List ℕ) → IsTrialOf trial file left state → schedule ≡ Some bytes
     → StopsLines before file (lines_of bytes) state unread a b answer) → StopsIfTold detail tape schedule unread a b answer
 script_stops detail before None schedule unread a b left feed trial answer same opens stands stops = tt
 script_stops detail before (Some tape) None unread a b left feed trial answer same opens stands stops = tt
@@ -219,13 +216,13 @@ script_stops detail before (Some tape) (Some schedule) unread a b left feed tria
     (stops file start schedule (stands file left (feed_of tape feed left opens)) refl))
 
 pub script_stops_behind : (detail : Detail) (before : Reporting) (tape schedule unread a b c left left' : Option (List ℕ)) (feed : Feeding)
-    (trial new : Trial) (r : Result ⊤ TrialStatus) → before ≡ record { detail = detail; text = [] } → Opens tape left (Ok feed)
-    → ((file : CaptureFile) (left : Option (List ℕ)) → IsFeedOf feed file left → StandsFor trial file left start)
-    → ((file : CaptureFile) (state : State) (bytes : List ℕ) → StandsFor trial file left state → schedule ≡ Some bytes
+    (trial new : Trial) (r : Result ⊤ TrialStatus) → before ≡ record { detail = detail; text = [] } → OpensFeed tape left (Ok feed)
+    → ((file : CaptureFile) (left : Option (List ℕ)) → IsFeedOf feed file left → IsTrialOf trial file left start)
+    → ((file : CaptureFile) (state : State) (bytes : List ℕ) → IsTrialOf trial file left state → schedule ≡ Some bytes
     → (n : ℕ) × LedTo HasStep before file 1 (lines_of bytes) state a b n [] new left')
     → IfErr r (λ e. e ≡ status.TapeFault → Appends b c new.reporter.text) → IfErr r (λ e. e ≢ status.ScheduleFault)
-    → StopsIfTold detail tape schedule unread a c (answer_of r)
+    → StopsIfTold detail tape schedule unread a c (status_answer r)
 script_stops_behind detail before tape schedule unread a b c left left' feed trial new r same opens stands led wrote not =
-    script_stops detail before tape schedule unread a c left feed trial (answer_of r) same opens stands (λ file state bytes there is.
+    script_stops detail before tape schedule unread a c left feed trial (status_answer r) same opens stands (λ file state bytes there is.
     let all = led file state bytes there is in
     stops_behind before file (lines_of bytes) state unread a b c all.0 new left' r all.1 wrote not)

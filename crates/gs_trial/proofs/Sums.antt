@@ -8,20 +8,20 @@ use Rattle.gs_refs.specs.History.{frames}
 use Rattle.gs_schedule.specs.declared.output.Output.TheVariants as output
 use Rattle.gs_loopback.specs.declared.session.Sums.{Sums}
 use Rattle.gs_report.specs.Reporting.{Reporting, with_reports}
+use Rattle.gs_report.proofs.Reported.{with_more}
 use Rattle.gs_loopback.specs.declared.session.Loopback.{Loopback}
-use Rattle.gs_loopback.specs.Standing.{AreSums, StandsFor as IsLoopbackOf}
-use Rattle.gs_run.specs.Session.{Part, Session, handed_of, asked_of, played_of}
+use Rattle.gs_loopback.specs.Standing.{AreSums, IsLoopbackOf}
+use Rattle.gs_run.specs.Session.{Part, RunSession, handed_of, asked_of, played_of}
 use Rattle.gs_run.specs.Report.{Report, plain}
 use Rattle.gs_run.specs.Totals.{inputs_of, parts_of, total_of, totals_from}
 use Rattle.gs_trial.specs.Standing.{AreSessions, IsSession}
 use Rattle.gs_trial.proofs.SessionLists.{session_at, sessions_long}
-use Rattle.gs_trial.proofs.Texts.{with_more}
 
 -- the sum of one part
-one : (f : Part → ℕ) (s : Session) → s.earlier ≡ [] → sum_by f (parts_of s) ≡ f s.part
+one : (f : Part → ℕ) (s : RunSession) → s.earlier ≡ [] → sum_by f (parts_of s) ≡ f s.part
 one f s none = ap (λ (l : List Part). sum_by f (s.part ∷ l)) none ∙ omega arith
 
-pub total_is : (number : ℕ) (s : Session) (sums : Sums) → s.earlier ≡ [] → AreSums sums s.part
+pub total_is : (number : ℕ) (s : RunSession) (sums : Sums) → s.earlier ≡ [] → AreSums sums s.part
     → plain (output.Total number sums.frames sums.handed sums.asks sums.inputs sums.units) ≡ total_of number s
 unfolding total_of
 total_is number s sums none are =
@@ -33,25 +33,25 @@ total_is number s sums none are =
     cc
 
 -- those of the sessions up to one more
-totals_suc : (n k : ℕ) (ss : List Session) (s : Session) → slice_get ss k ≡ Some s
+totals_suc : (n k : ℕ) (ss : List RunSession) (s : RunSession) → slice_get ss k ≡ Some s
     → totals_from n (take (suc k) ss) ≡ totals_from n (take k ss) ++ total_of (n + k) s ∷ []
 totals_suc n k [] s at = absurd cc
 totals_suc n zero (t ∷ ss) s at =
     let same : t ≡ s = cc in
-    ap (λ (u : Session). total_of n u ∷ []) same ∙ ap (λ (m : ℕ). total_of m s ∷ []) (omega arith)
+    ap (λ (u : RunSession). total_of n u ∷ []) same ∙ ap (λ (m : ℕ). total_of m s ∷ []) (omega arith)
 totals_suc n (suc k) (t ∷ ss) s at =
     let there : n + 1 + k ≡ n + suc k = omega arith in
     ap (λ (l : List Report). total_of n t ∷ l)
     (totals_suc (n + 1) k ss s at ∙ ap (λ (m : ℕ). totals_from (n + 1) (take k ss) ++ total_of m s ∷ []) there)
 
-totals_next : (n k : ℕ) (ss : List Session) (s : Session) → slice_get ss k ≡ Some s
+totals_next : (n k : ℕ) (ss : List RunSession) (s : RunSession) → slice_get ss k ≡ Some s
     → totals_from n (take (k + 1) ss) ≡ totals_from n (take k ss) ++ total_of (n + k) s ∷ []
 totals_next n k ss s at =
     let one : k + 1 ≡ suc k = omega arith in
     ap (λ (m : ℕ). totals_from n (take m ss)) one ∙ totals_suc n k ss s at
 
 -- a turn of the loop: one more is reported
-pub sums_more : (ticks : List Tick) (k : ℕ) (ls : List Loopback) (ss : List Session) (was : Loopback) (sums : Sums) (first before after : Reporting)
+pub sums_more : (ticks : List Tick) (k : ℕ) (ls : List Loopback) (ss : List RunSession) (was : Loopback) (sums : Sums) (first before after : Reporting)
     → AreSessions ticks 1 ls ss → before ≡ with_reports first (totals_from 1 (take k ss)) → k < length ls → was ≡ slice_index_or ls k was
     → ((session : ℕ) (ticks : List Tick) (part : Part) → IsLoopbackOf was session ticks part → AreSums sums part)
     → after ≡ with_reports before (plain (output.Total (k + 1) sums.frames sums.handed sums.asks sums.inputs sums.units) ∷ [])
@@ -69,11 +69,11 @@ sums_more ticks k ls ss was sums first before after are text within at told more
     ∙ ap (with_reports first) (sym (totals_next 1 k ss f.0 f.1))
 
 -- all, and that all is done
-pub sums_all : (ticks : List Tick) (k : ℕ) (ls : List Loopback) (ss : List Session) (first before after : Reporting)
+pub sums_all : (ticks : List Tick) (k : ℕ) (ls : List Loopback) (ss : List RunSession) (first before after : Reporting)
     → AreSessions ticks 1 ls ss → before ≡ with_reports first (totals_from 1 (take k ss)) → length ls ≤ k
     → after ≡ with_reports before (plain output.Done ∷ []) → after ≡ with_reports first (totals_from 1 ss ++ plain output.Done ∷ [])
 sums_all ticks k ls ss first before after are text past done =
     let all : take k ss ≡ ss = take_all k ss (omega (arith, past, sessions_long ticks 1 ls ss are)) in
     done ∙ ap (λ (r : Reporting). with_reports r (plain output.Done ∷ [])) text
     ∙ with_more first (totals_from 1 (take k ss)) (plain output.Done ∷ [])
-    ∙ ap (λ (l : List Session). with_reports first (totals_from 1 l ++ plain output.Done ∷ [])) all
+    ∙ ap (λ (l : List RunSession). with_reports first (totals_from 1 l ++ plain output.Done ∷ [])) all

@@ -13,6 +13,7 @@ use Rattle.gs_bytes.proofs.Cases.{match_more}
 use Rattle.gs_command.specs.declared.command.Detail.{Detail}
 use Rattle.gs_run.specs.Report.{Report, report_text, text_of}
 use Rattle.gs_report.specs.Reporting.{Reporting, with_reports}
+use Rattle.gs_report.proofs.Reported.{with_more, with_none}
 use Rattle.gs_schedule.specs.declared.status.TrialStatus.{TrialStatus}
 use Rattle.gs_trial.specs.Trial.{WritesFront, is_of_source}
 use Rattle.gs_trial.specs.Running.{WritesPart, WritesUpTo, WritesWaiting}
@@ -21,15 +22,6 @@ pub text-append : (detail : Detail) (xs ys : List Report) → text_of detail (xs
 text-append detail xs ys = flat_map-append (report_text detail) xs ys
 
 -- ---- a reporter's text
-
-pub with_none : (r : Reporting) → with_reports r [] ≡ r
-with_none r = ap (λ (text : List ℕ). record r { text = text }) (append-nil r.text)
-
-pub with_more : (r : Reporting) (xs ys : List Report) → with_reports (with_reports r xs) ys ≡ with_reports r (xs ++ ys)
-with_more r xs ys =
-    let joined : (r.text ++ text_of r.detail xs) ++ text_of r.detail ys ≡ r.text ++ text_of r.detail (xs ++ ys) =
-    append_assoc r.text (text_of r.detail xs) (text_of r.detail ys) ∙ ap (λ (l : List ℕ). r.text ++ l) (sym (text-append r.detail xs ys)) in
-    ap (λ (text : List ℕ). record r { text = text }) joined
 
 pub more_text : (r : Reporting) (xs ys : List Report) → (with_reports r xs).text ++ text_of r.detail ys ≡ (with_reports r (xs ++ ys)).text
 more_text r xs ys = ap (λ (s : Reporting). s.text) (with_more r xs ys)

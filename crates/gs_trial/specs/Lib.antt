@@ -1,5 +1,5 @@
 pub mod Standing
 pub mod Stepping
-pub mod Running
 pub mod Trial
 pub mod Stopping
+pub mod Running

@@ -16,7 +16,7 @@ use Rattle.gs_run.specs.Done.{ran}
 use Rattle.gs_run.specs.Line.{AreDeeds, HasStep}
 use Rattle.gs_run.specs.Run.{Run, RunsFrom, refusal_status}
 use Rattle.gs_trial.specs.declared.trial.Trial.{Trial}
-use Rattle.gs_trial.specs.Standing.{StandsFor}
+use Rattle.gs_trial.specs.Standing.{IsTrialOf}
 use Rattle.gs_trial.specs.Stopping.{IsAtCapture}
 pub use Rattle.gs_trial.specs.Stopping.{Leads}
 use Rattle.gs_trial.specs.Trial.{WritesFront, is_of_run, is_of_source}
@@ -64,7 +64,7 @@ pub record LedTo {A : Type 0} (Has : ℕ → A → Option Step → Type 0) (befo
   pub reached : State
   pub reports : List Report
   pub run : Leads Has file number steps state reports number' steps' reached
-  pub stands : StandsFor trial file left reached
+  pub stands : IsTrialOf trial file left reached
   pub detail_is : trial.reporter.detail ≡ before.detail
   pub writes : WritesUpTo old new (with_reports before reports).text trial.reporter.text
 
@@ -106,14 +106,14 @@ pub record RanStep (before : Reporting) (file : CaptureFile) (step : Step) (stat
   pub deeds : List Deed
   pub are_deeds : AreDeeds file step state deeds
   pub all : (ran file deeds state).refused ≡ None
-  pub stands : StandsFor trial file left (ran file deeds state).state
+  pub stands : IsTrialOf trial file left (ran file deeds state).state
   pub detail_is : trial.reporter.detail ≡ before.detail
   pub writes : WritesUpTo old new (with_reports before (ran file deeds state).reports).text trial.reporter.text
 
 -- they were refused, which is the answer
-abbrev pub IsRefused : ℕ → Option Refusal → TrialStatus → Type 0
-IsRefused number None answer = ⊥
-IsRefused number (Some why) answer = refusal_status number why ≡ answer
+abbrev pub IsRunRefused : ℕ → Option Refusal → TrialStatus → Type 0
+IsRunRefused number None answer = ⊥
+IsRunRefused number (Some why) answer = refusal_status number why ≡ answer
 
 -- The deed of a step was refused, and what waited before and the text of those before it were written; where the answer
 -- isn't the run's, a part of what waited and the text of all.
@@ -122,6 +122,6 @@ pub record EndsStep (before : Reporting) (file : CaptureFile) (number : ℕ) (st
   pub deeds : List Deed
   pub are_deeds : AreDeeds file step state deeds
   pub writes : MatchBool (is_of_run answer)
-      (IsRefused number (ran file deeds state).refused answer
+      (IsRunRefused number (ran file deeds state).refused answer
       × Appends old new (with_reports before (ran file deeds state).reports).text)
       (WritesPart answer before (ran file deeds state).reports old new)

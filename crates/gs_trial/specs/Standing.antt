@@ -2,23 +2,23 @@
 use Rattle.std.specs.Prelude.{ℕ, ◌≡◌, ◌+◌, ◌<◌, ◌≤◌, ◌⊎◌, length, List, [], ◌∷◌, Option, None, ⊤}
 use Rattle.std.specs.List.{All}
 use Rattle.gs_tape.specs.Tick.{Tick}
-use Rattle.gs_tape.specs.Limits.{most_audio}
+use Rattle.gs_tape.specs.Limits.{most_audio, IsDuration}
 use Rattle.gs_tape.specs.declared.stage.Stage.TheVariants.{Open}
-use Rattle.gs_feed.specs.Feeding.{Feeding, StandsFor as IsReadingOf}
+use Rattle.gs_feed.specs.Feeding.{Feeding, IsFeedAt}
 use Rattle.gs_host_end.specs.Outcomes.{KeepsTicks}
 use Rattle.gs_loopback.specs.declared.session.Loopback.{Loopback}
-use Rattle.gs_loopback.specs.Standing.{StandsFor as IsLoopbackOf}
+use Rattle.gs_loopback.specs.Standing.{IsLoopbackOf}
 use Rattle.gs_run.specs.CaptureFile.{CaptureFile}
-use Rattle.gs_run.specs.Session.{Session, State}
+use Rattle.gs_run.specs.Session.{RunSession, State}
 use Rattle.gs_trial.specs.declared.trial.Trial.{Trial}
 
 -- a session of one part
-pub record IsSession (ticks : List Tick) (number : ℕ) (loopback : Loopback) (session : Session) : Type 0 where
+pub record IsSession (ticks : List Tick) (number : ℕ) (loopback : Loopback) (session : RunSession) : Type 0 where
   pub part : IsLoopbackOf loopback number ticks session.part
   pub earlier : session.earlier ≡ []
 
 -- one by one, numbered from this number on
-abbrev pub AreSessions : List Tick → ℕ → List Loopback → List Session → Type 0
+abbrev pub AreSessions : List Tick → ℕ → List Loopback → List RunSession → Type 0
 AreSessions ticks number [] [] = ⊤
 AreSessions ticks number [] (session ∷ sessions) = ⊥
 AreSessions ticks number (loopback ∷ loopbacks) [] = ⊥
@@ -28,11 +28,11 @@ AreSessions ticks number (loopback ∷ loopbacks) (session ∷ sessions) =
 -- The feed captures this file, whose head has no fault; the source has so much of it left.
 pub record IsFeedOf (feed : Feeding) (file : CaptureFile) (left : Option (List ℕ)) : Type 0 where
   pub head : file.head ≡ None
-  pub stands : IsReadingOf feed left file.ticks file.fault
+  pub stands : IsFeedAt feed left file.ticks file.fault
   pub audio : feed.tape.audio ≡ file.audio
   pub duration : feed.tape.duration ≡ file.duration
 
-pub record StandsFor (trial : Trial) (file : CaptureFile) (left : Option (List ℕ)) (state : State) : Type 0 where
+pub record IsTrialOf (trial : Trial) (file : CaptureFile) (left : Option (List ℕ)) (state : State) : Type 0 where
   pub feed : IsFeedOf trial.feed file left
   pub captured : trial.feed.count ≡ state.captured
   pub moment : trial.moment ≡ state.moment
@@ -43,7 +43,7 @@ pub record StandsFor (trial : Trial) (file : CaptureFile) (left : Option (List �
 pub record IsReady (trial : Trial) : Type 0 where
   pub stage : trial.feed.tape.stage ≡ Open
   pub audio : trial.feed.tape.audio ≤ most_audio
-  pub duration : (trial.feed.tape.duration ≡ 5) ⊎ (trial.feed.tape.duration ≡ 10)
+  pub duration : IsDuration trial.feed.tape.duration
   pub keep : All (λ l. KeepsTicks trial.feed l.host) trial.sessions.items
 
 -- no session has this number

@@ -21,7 +21,7 @@ use Rattle.gs_run.specs.Line.{AreDeeds}
 use Rattle.gs_trial.specs.declared.error.StepError.{StepError}
 use Rattle.gs_trial.specs.declared.error.StepError.TheVariants as step_error
 use Rattle.gs_trial.specs.declared.trial.Trial.{Trial}
-use Rattle.gs_trial.specs.Standing.{StandsFor}
+use Rattle.gs_trial.specs.Standing.{IsTrialOf}
 
 -- the refusal that an error tells; a source that failed and want of memory tell none
 abbrev pub refusal_of_tape : Option Fault → Option Refusal
@@ -49,7 +49,7 @@ pub record RanTo (did : Ran) (refused : Option Refusal) (before now : Reporting)
 pub record RanWhole (file : CaptureFile) (left : Option (List ℕ)) (did : Ran) (new : Trial) (before now : Reporting)
     : Type 0 where
   pub ran : RanTo did None before now
-  pub stands : StandsFor new file left did.state
+  pub stands : IsTrialOf new file left did.state
 
 -- nothing is said where a source failed or memory ran out
 abbrev pub RanAs : CaptureFile → Option (List ℕ) → Ran → Trial → Reporting → Reporting → Result ⊤ StepError → Type 0
@@ -63,7 +63,7 @@ RunsDeeds file deeds state left new before now result = RanAs file left (ran fil
 -- over each state that a trial stood for
 abbrev pub RunsIn : Trial → List Deed → Trial → Result ⊤ StepError → Type 0
 RunsIn old deeds new result =
-    (file : CaptureFile) (left : Option (List ℕ)) (state : State) → StandsFor old file left state
+    (file : CaptureFile) (left : Option (List ℕ)) (state : State) → IsTrialOf old file left state
     → RunsDeeds file deeds state left new old.reporter new.reporter result
 
 -- ---- a step
@@ -83,10 +83,10 @@ StepsIfTold file step state left new before now (Err e) =
     IfSome (refusal_of e) (λ why. Steps file step state left new before now (Err e))
 
 -- the event of a step is of a known kind, and its button is one; datagrams are named from the first to the last
-abbrev pub IsProper : Step → Type 0
-IsProper (step.Input session event) = IsKnown event × HasButton event
-IsProper (step.Videos session first last) = first ≤ last
-IsProper _ = ⊤
+abbrev pub IsStepAllowed : Step → Type 0
+IsStepAllowed (step.Input session event) = IsKnown event × HasButton event
+IsStepAllowed (step.Videos session first last) = first ≤ last
+IsStepAllowed _ = ⊤
 
 -- ---- how a trial ends
 

@@ -92,12 +92,11 @@ CompletesIfTold (Some tape) (Some schedule) answer =
     (run : Run) → IsRun (file_of tape) (lines_of schedule) run → run.status ≡ status.Ok
     → (answer ≡ status.Ok) ⊎ (answer ≡ status.OutOfMemory)
 
--- Where no write failed, only memory may be wanting to a generated capture file, and to a generated run that ends well.
+-- Where no write failed, only memory may be wanting to a generated run, which ends well, and to a generated capture
+-- file.
 abbrev pub CompletesGenerated : TrialCommand → TrialStatus → Type 0
 CompletesGenerated (Script detail) answer = ⊤
-CompletesGenerated (Make generated) answer =
-    (run : Run) → IsGeneratedRun generated.number generated.ticks run → run.status ≡ status.Ok
-    → (answer ≡ status.Ok) ⊎ (answer ≡ status.OutOfMemory)
+CompletesGenerated (Make generated) answer = (answer ≡ status.Ok) ⊎ (answer ≡ status.OutOfMemory)
 CompletesGenerated (Tape generated) answer = (answer ≡ status.Ok) ⊎ (answer ≡ status.OutOfMemory)
 
 -- the head of the capture file is in order, where its bytes are told
@@ -124,6 +123,6 @@ IsCause status.Ok = ⊥
 IsCause (status.Usage word) = ⊥
 IsCause _ = ⊤
 
-abbrev pub answer_of : Result ⊤ TrialStatus → TrialStatus
-answer_of (Ok done) = status.Ok
-answer_of (Err e) = e
+abbrev pub status_answer : Result ⊤ TrialStatus → TrialStatus
+status_answer (Ok done) = status.Ok
+status_answer (Err e) = e

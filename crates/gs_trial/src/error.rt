@@ -1,4 +1,8 @@
-// Why a step isn't run.
+// Why a step isn't run, and how a trial then ends.
+//
+// A status and the errors that lead to it are types of other crates, so functions turn one into the other, and no
+// `From`; what a failed call means depends on the object besides. Where a function of the trial answers an error, that
+// is a status other than `Ok` and `Usage`: each says so by its clause `cause`.
 
 ghost use Rattle.std.specs.Prelude.{◌≡◌};
 ghost use Rattle.gs_trial.specs.Stepping.{refusal_of};

@@ -3,7 +3,7 @@
 ghost use Rattle.std.specs.Prelude.{◌≡◌, ◌≢◌, ◌<◌, ◌≤◌, ◌⊎◌, IfErr, IfOk, OnErr, OnOk, length};
 ghost use Rattle.std.specs.Io.KnownBytes.{Appends};
 ghost use Rattle.gs_tape.specs.Limits.{most_generated};
-ghost use Rattle.gs_trial.specs.Trial.{AnswersMake, AnswersTape, CountsFor, IsCause, WritesFront, answer_of};
+ghost use Rattle.gs_trial.specs.Trial.{AnswersMake, AnswersTape, CountsFor, IsCause, WritesFront, status_answer};
 
 use crate::error::write_status;
 use crate::generated_steps::generated_steps;
@@ -26,7 +26,7 @@ pub(crate) fn write_tape<K: Sink>(
 ) -> Result<(), TrialStatus>
     requires few { generated.ticks ≤ most_generated }
     ensures answers { AnswersTape generated.number generated.ticks (K.written out.old) (K.written out.new)
-        (answer_of result) }
+        (status_answer result) }
     ensures cause { IfErr result (λ e. (e ≡ TrialStatus.WriteFault) ⊎ (e ≡ TrialStatus.OutOfMemory)) }
     ensures write_faults { CountsFor TrialStatus.WriteFault result (K.faults out.old) (K.faults out.new) }
 {
@@ -76,7 +76,7 @@ pub(crate) fn make<K: Sink>(
 ) -> Result<(), TrialStatus>
     requires few { generated.ticks ≤ most_generated }
     ensures answers { AnswersMake generated.number generated.ticks (K.written out.old) (K.written out.new)
-        (answer_of result) }
+        (status_answer result) }
     ensures cause { IfErr result IsCause }
     ensures not_tape { IfErr result (λ e. e ≢ TrialStatus.TapeFault) }
     ensures not_schedule { IfErr result (λ e. e ≢ TrialStatus.ScheduleFault) }

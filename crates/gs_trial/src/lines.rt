@@ -1,6 +1,7 @@
 // The lines of a schedule.
 
-ghost use Rattle.std.specs.Prelude.{◌≡◌, ◌≢◌, ◌≤◌, ◌<◌, ◌+◌, ◌-◌, ◌^◌, ◌∷◌, [], ℕ, List, Err, Some, IfErr, OnOk, length};
+ghost use Rattle.std.specs.Prelude.{◌≡◌, ◌≢◌, ◌≤◌, ◌<◌, ◌+◌, ◌-◌, ◌^◌, ◌∷◌, [], ℕ, List, Err, Some, IfErr, OnOk};
+ghost use Rattle.std.specs.Prelude.{length};
 ghost use Rattle.std.specs.Io.KnownBytes.{Appends, IsAtEnd};
 ghost use Rattle.gs_bytes.specs.Outside.{KeepsFlag, SetsFlag};
 ghost use Rattle.gs_schedule.specs.Lines.{lines_of, most_line};
@@ -9,7 +10,7 @@ ghost use Rattle.gs_run.specs.CaptureFile.{CaptureFile};
 ghost use Rattle.gs_run.specs.Session.{State};
 ghost use Rattle.gs_run.specs.Line.{HasStep};
 ghost use Rattle.gs_run.specs.Run.{stopped};
-ghost use Rattle.gs_trial.specs.Standing.{IsReady, StandsFor};
+ghost use Rattle.gs_trial.specs.Standing.{IsReady, IsTrialOf};
 ghost use Rattle.gs_trial.specs.Running.{EndsRun, LedTo, StopsLines, WritesBehind};
 ghost use Rattle.gs_trial.specs.Trial.{CountsFor, IsCause};
 
@@ -29,15 +30,15 @@ impl Trial {
         requires ready { IsReady self.old }
         ensures ready { OnOk result (IsReady self.new) }
         ensures led { OnOk result ((file : CaptureFile) (state : State) (bytes : List ℕ)
-            → StandsFor self.old file (S.left tape.old) state
+            → IsTrialOf self.old file (S.left tape.old) state
             → T.left schedule.old ≡ Some bytes → (n : ℕ) × LedTo HasStep self.old.reporter file 1 (lines_of bytes) state
             (K.written out.old) (K.written out.new) n [] self.new (S.left tape.new)) }
         ensures ends { IfErr result (λ answer. (file : CaptureFile) (state : State) (bytes : List ℕ)
-            → StandsFor self.old file (S.left tape.old) state
+            → IsTrialOf self.old file (S.left tape.old) state
             → T.left schedule.old ≡ Some bytes → EndsRun HasStep self.old.reporter file 1 (lines_of bytes) state
             (K.written out.old) (K.written out.new) answer) }
         ensures stops { IfErr result (λ answer. (file : CaptureFile) (state : State) (bytes : List ℕ)
-            → StandsFor self.old file (S.left tape.old) state
+            → IsTrialOf self.old file (S.left tape.old) state
             → T.left schedule.old ≡ Some bytes
             → StopsLines self.old.reporter file (lines_of bytes) state (T.left schedule.new)
             (K.written out.old) (K.written out.new) answer) }
@@ -89,11 +90,11 @@ impl Trial {
         requires ready { IsReady self.old }
         ensures ready { OnOk result (IsReady self.new) }
         ensures led { OnOk result ((file : CaptureFile) (state : State) (rest : List (List ℕ))
-            → StandsFor self.old file (S.left tape.old) state
+            → IsTrialOf self.old file (S.left tape.old) state
             → LedTo HasStep self.old.reporter file line.now.number (line.now.bytes ∷ rest) state
             (K.written out.old) (K.written out.new) (line.now.number + 1) rest self.new (S.left tape.new)) }
         ensures ends { IfErr result (λ answer. (file : CaptureFile) (state : State) (rest : List (List ℕ))
-            → StandsFor self.old file (S.left tape.old) state
+            → IsTrialOf self.old file (S.left tape.old) state
             → EndsRun HasStep self.old.reporter file line.now.number (line.now.bytes ∷ rest) state
             (K.written out.old) (K.written out.new) answer) }
         ensures at_capture { IfErr result (λ e. e ≡ TrialStatus.TapeFault

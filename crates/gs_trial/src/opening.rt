@@ -1,7 +1,8 @@
 // How a session of a trial is opened.
 
-ghost use Rattle.std.specs.Prelude.{◌≡◌, ◌≤◌, ◌<◌, ◌+◌, ◌&&◌, ◌↔◌, false, [], ◌∷◌, IfErr, IfNone, IfSome, IsSome, OnOk, length, nat_le};
-ghost use Rattle.gs_rtp.specs.Settings.{AreNumbersOfSettings};
+ghost use Rattle.std.specs.Prelude.{◌≡◌, ◌≤◌, ◌<◌, ◌+◌, ◌&&◌, ◌↔◌, false, [], ◌∷◌, IfErr, IfNone, IfSome, IsSome, OnOk};
+ghost use Rattle.std.specs.Prelude.{length, nat_le};
+ghost use Rattle.gs_rtp.specs.Settings.{AreSettingsWithinLimits};
 ghost use Rattle.gs_frames.specs.Client.{least_window, most_window};
 ghost use Rattle.gs_run.specs.Deed.{Open};
 ghost use Rattle.gs_run.specs.Opening.{most_sessions};
@@ -61,9 +62,15 @@ impl Trial {
     // The settings of the next session, where they are within their limits.
     fn settings(&self, packet: u32, percentage: u32, minimum: u32) -> Option<Settings>
         requires room { length self.now.sessions.items < most_sessions }
-        ensures within { IsSome result ↔ AreNumbersOfSettings packet percentage minimum SESSION_FPS
-            self.now.feed.tape.duration
-            self.now.feed.tape.audio (length self.now.sessions.items + 1) }
+        ensures within { IsSome result ↔ AreSettingsWithinLimits (record {
+          packet = packet;
+          percentage = percentage;
+          minimum = minimum;
+          fps = SESSION_FPS;
+          duration = self.now.feed.tape.duration;
+          audio = self.now.feed.tape.audio;
+          ssrc = length self.now.sessions.items + 1;
+        }) }
         ensures packet { IfSome result (λ s. s.packet ≡ packet) }
         ensures percentage { IfSome result (λ s. s.percentage ≡ percentage) }
         ensures minimum { IfSome result (λ s. s.minimum ≡ minimum) }

@@ -6,8 +6,8 @@ ghost use Rattle.gs_bytes.specs.Outside.{AppendsPart, KeepsFlag};
 ghost use Rattle.gs_schedule.specs.Lines.{holds_line};
 ghost use Rattle.gs_run.specs.CaptureFile.{CaptureFile};
 ghost use Rattle.gs_run.specs.Session.{State};
-ghost use Rattle.gs_trial.specs.Standing.{IsReady, StandsFor};
-ghost use Rattle.gs_trial.specs.Stepping.{IsProper};
+ghost use Rattle.gs_trial.specs.Standing.{IsReady, IsTrialOf};
+ghost use Rattle.gs_trial.specs.Stepping.{IsStepAllowed};
 ghost use Rattle.gs_trial.specs.Running.{EndsStep, IsSameButText, RanStep, WritesUpTo};
 ghost use Rattle.gs_trial.specs.Trial.{CountsFor, IsCause};
 
@@ -28,15 +28,15 @@ impl Trial {
         tape: &mut S,
         out: &mut K,
     ) -> Result<(), TrialStatus>
-        requires proper { IsProper step.now }
+        requires proper { IsStepAllowed step.now }
         requires ready { IsReady self.old }
         ensures ready { OnOk result (IsReady self.new) }
         ensures ran { OnOk result ((file : CaptureFile) (state : State)
-            → StandsFor self.old file (S.left tape.old) state
+            → IsTrialOf self.old file (S.left tape.old) state
             → RanStep self.old.reporter file step.now state (K.written out.old) (K.written out.new) self.new
             (S.left tape.new)) }
         ensures ends { IfErr result (λ answer. (file : CaptureFile) (state : State)
-            → StandsFor self.old file (S.left tape.old) state
+            → IsTrialOf self.old file (S.left tape.old) state
             → EndsStep self.old.reporter file number step.now state (K.written out.old) (K.written out.new) answer) }
         ensures at_capture { IfErr result (λ e. e ≡ TrialStatus.TapeFault
             → (step.now ≡ Step.Cap) × Appends (K.written out.old) (K.written out.new) self.old.reporter.text) }
@@ -96,7 +96,8 @@ impl Trial {
         }
     }
 
-    // Writes the text that waits, once it makes a piece.
+    // Writes the text that waits behind a step, once it makes a piece. So what waits is never longer than a piece and
+    // the text of one step.
     fn write_piece<K: Sink>(&mut self, out: &mut K) -> Result<(), TrialStatus>
         ensures kept { IsSameButText self.old self.new }
         ensures up_to { OnOk result (WritesUpTo (K.written out.old) (K.written out.new) self.old.reporter.text

@@ -6,15 +6,15 @@ ghost use Rattle.gs_bytes.specs.Outside.{SetsFlag};
 ghost use Rattle.gs_tape.specs.Tick.{Tick};
 ghost use Rattle.gs_schedule.specs.declared.output.Output.TheVariants as output;
 ghost use Rattle.gs_run.specs.CaptureFile.{CaptureFile};
-ghost use Rattle.gs_run.specs.Session.{Session, State};
+ghost use Rattle.gs_run.specs.Session.{RunSession, State};
 ghost use Rattle.gs_run.specs.Report.{plain};
 ghost use Rattle.gs_run.specs.Run.{finished};
 ghost use Rattle.gs_run.specs.Totals.{totals_from};
 ghost use Rattle.gs_report.specs.Reporting.{with_reports};
-ghost use Rattle.gs_trial.specs.Standing.{AreSessions, IsReady, StandsFor};
+ghost use Rattle.gs_trial.specs.Standing.{AreSessions, IsReady, IsTrialOf};
 ghost use Rattle.gs_trial.specs.Running.{WritesBehind};
 ghost use Rattle.gs_trial.specs.Stopping.{StopsIfTold};
-ghost use Rattle.gs_trial.specs.Trial.{AnswersIfTold, CountsFor, HasHead, IsCause, answer_of};
+ghost use Rattle.gs_trial.specs.Trial.{AnswersIfTold, CountsFor, HasHead, IsCause, status_answer};
 
 use crate::error::tape_status;
 use crate::trial::Trial;
@@ -35,9 +35,9 @@ pub(crate) fn run_script<S: Source, T: Source, K: Sink>(
     out: &mut K,
 ) -> Result<(), TrialStatus>
     ensures answers { AnswersIfTold detail (S.left tape.old) (T.left schedule.old) (K.written out.old)
-        (K.written out.new) (answer_of result) }
+        (K.written out.new) (status_answer result) }
     ensures stops { StopsIfTold detail (S.left tape.old) (T.left schedule.old) (T.left schedule.new)
-        (K.written out.old) (K.written out.new) (answer_of result) }
+        (K.written out.old) (K.written out.new) (status_answer result) }
     ensures headless { (HasHead (S.left tape.old) → ⊥) → (schedule.new ≡ schedule.old) × (out.new ≡ out.old) }
     ensures cause { IfErr result IsCause }
     ensures head_first { IfErr result (λ e. e ≡ TrialStatus.ScheduleFault → HasHead (S.left tape.old)) }
@@ -67,9 +67,9 @@ impl Trial {
         out: &mut K,
     ) -> Result<(), TrialStatus>
         requires ready { IsReady self.old }
-        ensures finishes { (file : CaptureFile) (state : State) → StandsFor self.old file (S.left tape.old) state
+        ensures finishes { (file : CaptureFile) (state : State) → IsTrialOf self.old file (S.left tape.old) state
             → WritesBehind self.old.reporter (finished file.fault state) (K.written out.old) (K.written out.new)
-            (answer_of result) }
+            (status_answer result) }
         ensures at_rest { IfErr result (λ e. e ≡ TrialStatus.TapeFault
             → Appends (K.written out.old) (K.written out.new) self.old.reporter.text) }
         ensures cause { IfErr result IsCause }
@@ -91,7 +91,7 @@ impl Trial {
 
     // The sums of each session, and that all is done.
     fn report_sums(&mut self) -> Result<(), OutOfMemory>
-        ensures sums { OnOk result ((ticks : List Tick) (sessions : List Session)
+        ensures sums { OnOk result ((ticks : List Tick) (sessions : List RunSession)
             → AreSessions ticks 1 self.old.sessions.items sessions
             → self.new.reporter ≡ with_reports self.old.reporter (totals_from 1 sessions ++ plain output.Done ∷ [])) }
         ensures detail { self.new.reporter.detail ≡ self.old.reporter.detail }

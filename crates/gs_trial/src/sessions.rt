@@ -1,6 +1,7 @@
 // What is done in the sessions of a trial.
 
-ghost use Rattle.std.specs.Prelude.{◌≡◌, ◌+◌, ◌<◌, ◌≤◌, ℕ, List, [], ◌∷◌, Option, Ok, Err, IfOk, IfErr, OnOk, length, if◌then◌else◌};
+ghost use Rattle.std.specs.Prelude.{◌≡◌, ◌+◌, ◌<◌, ◌≤◌, ℕ, List, [], ◌∷◌, Option, Ok, Err, IfOk, IfErr, OnOk, length};
+ghost use Rattle.std.specs.Prelude.{if◌then◌else◌};
 ghost use Rattle.gs_input.specs.Event.{HasButton, IsKnown};
 ghost use Rattle.gs_schedule.specs.declared.step.Step.TheVariants as step;
 ghost use Rattle.gs_run.specs.CaptureFile.{CaptureFile};
@@ -8,7 +9,7 @@ ghost use Rattle.gs_run.specs.Session.{State};
 ghost use Rattle.gs_run.specs.Deed.{Turn, Give, AskIdr, Close, Reset, In};
 ghost use Rattle.gs_run.specs.Line.{videos};
 ghost use Rattle.gs_loopback.specs.Running.{run_delivery};
-ghost use Rattle.gs_trial.specs.Standing.{HasNoSession, IsReady, StandsFor};
+ghost use Rattle.gs_trial.specs.Standing.{HasNoSession, IsReady, IsTrialOf};
 ghost use Rattle.gs_trial.specs.Stepping.{IsOwn, RunsIn, StepsIfTold};
 
 use crate::error::StepError;
@@ -96,7 +97,7 @@ impl Trial {
         ensures ready { OnOk result (IsReady self.new) }
         ensures feed { self.new.feed ≡ self.old.feed }
         ensures own { IfErr result IsOwn }
-        ensures ran { (file : CaptureFile) (left : Option (List ℕ)) (state : State) → StandsFor self.old file left state
+        ensures ran { (file : CaptureFile) (left : Option (List ℕ)) (state : State) → IsTrialOf self.old file left state
             → StepsIfTold file (step.Pump session every) state left self.new self.old.reporter self.new.reporter
             result }
     {

@@ -7,8 +7,8 @@ ghost use Rattle.gs_host_end.specs.Outcomes.{tick_sent};
 ghost use Rattle.gs_run.specs.CaptureFile.{CaptureFile};
 ghost use Rattle.gs_run.specs.Session.{State};
 ghost use Rattle.gs_run.specs.Deed.{Capture};
-ghost use Rattle.gs_trial.specs.Standing.{IsReady, StandsFor};
-ghost use Rattle.gs_trial.specs.Stepping.{IsProper, RunsDeeds, StepsIfTold};
+ghost use Rattle.gs_trial.specs.Standing.{IsReady, IsTrialOf};
+ghost use Rattle.gs_trial.specs.Stepping.{IsStepAllowed, RunsDeeds, StepsIfTold};
 
 use crate::error::StepError;
 use crate::trial::Trial;
@@ -20,10 +20,10 @@ use gs_tape::TapeError;
 impl Trial {
     /// Runs a step. Where it can't be run, what it did before the deed at fault stands, with its text.
     pub(crate) fn step<S: Source>(&mut self, step: &Step, tape: &mut S) -> Result<(), StepError>
-        requires proper { IsProper step.now }
+        requires proper { IsStepAllowed step.now }
         requires ready { IsReady self.old }
         ensures ready { OnOk result (IsReady self.new) }
-        ensures ran { (file : CaptureFile) (state : State) → StandsFor self.old file (S.left tape.old) state
+        ensures ran { (file : CaptureFile) (state : State) → IsTrialOf self.old file (S.left tape.old) state
             → StepsIfTold file step.now state (S.left tape.new) self.new self.old.reporter self.new.reporter result }
         ensures not_met { OnOk result (KeepsFlag (S.met_end tape.old) (S.met_end tape.new)) }
         ensures only_cap { result ≡ Err (StepError.Tape TapeError.TapeFault) → step.now ≡ Step.Cap }
@@ -63,7 +63,7 @@ impl Trial {
     fn capture<S: Source>(&mut self, tape: &mut S) -> Result<(), StepError>
         requires ready { IsReady self.old }
         ensures ready { OnOk result (IsReady self.new) }
-        ensures ran { (file : CaptureFile) (state : State) → StandsFor self.old file (S.left tape.old) state
+        ensures ran { (file : CaptureFile) (state : State) → IsTrialOf self.old file (S.left tape.old) state
             → RunsDeeds file (Capture ∷ []) state (S.left tape.new) self.new self.old.reporter self.new.reporter
             result }
         ensures not_met { OnOk result (KeepsFlag (S.met_end tape.old) (S.met_end tape.new)) }

@@ -5,8 +5,8 @@ ghost use Rattle.std.specs.List.{All};
 ghost use Rattle.gs_run.specs.CaptureFile.{CaptureFile};
 ghost use Rattle.gs_run.specs.Run.{IsStep};
 ghost use Rattle.gs_run.specs.Session.{State};
-ghost use Rattle.gs_trial.specs.Standing.{IsReady, StandsFor};
-ghost use Rattle.gs_trial.specs.Stepping.{IsProper};
+ghost use Rattle.gs_trial.specs.Standing.{IsReady, IsTrialOf};
+ghost use Rattle.gs_trial.specs.Stepping.{IsStepAllowed};
 ghost use Rattle.gs_trial.specs.Running.{EndsRun, LedTo};
 ghost use Rattle.gs_trial.specs.Trial.{CountsFor, IsCause};
 
@@ -22,16 +22,16 @@ impl Trial {
         tape: &mut S,
         out: &mut K,
     ) -> Result<(), TrialStatus>
-        requires proper { All IsProper steps.now }
+        requires proper { All IsStepAllowed steps.now }
         requires few { length steps.now < 2 ^ 32 - 1 }
         requires ready { IsReady self.old }
         ensures ready { OnOk result (IsReady self.new) }
         ensures led { OnOk result ((file : CaptureFile) (state : State)
-            → StandsFor self.old file (S.left tape.old) state
+            → IsTrialOf self.old file (S.left tape.old) state
             → (n : ℕ) × LedTo IsStep self.old.reporter file 1 steps.now state
             (K.written out.old) (K.written out.new) n [] self.new (S.left tape.new)) }
         ensures ends { IfErr result (λ answer. (file : CaptureFile) (state : State)
-            → StandsFor self.old file (S.left tape.old) state
+            → IsTrialOf self.old file (S.left tape.old) state
             → EndsRun IsStep self.old.reporter file 1 steps.now state (K.written out.old) (K.written out.new) answer) }
         ensures cause { IfErr result IsCause }
         ensures not_schedule { IfErr result (λ e. e ≢ TrialStatus.ScheduleFault) }

@@ -3,7 +3,7 @@
 ghost use Rattle.std.specs.Prelude.{◌≡◌, ◌≤◌, ◌+◌, [], ◌∷◌, List, IfErr, IfNone, IfSome, OnOk, ◌<◌};
 ghost use Rattle.gs_tape.specs.Tick.{Tick};
 ghost use Rattle.gs_report.specs.Reporting.{Did};
-ghost use Rattle.gs_run.specs.Session.{Session};
+ghost use Rattle.gs_run.specs.Session.{RunSession};
 ghost use Rattle.gs_run.specs.Deed.{Pass};
 ghost use Rattle.gs_run.specs.Done.{all_timed};
 ghost use Rattle.gs_run.specs.Refusal.{most_moment};
@@ -46,7 +46,7 @@ impl Trial {
         requires ready { IsReady self.old }
         ensures ready { OnOk result (IsReady self.new) }
         ensures feed { (self.new.feed ≡ self.old.feed) × (self.new.moment ≡ self.old.moment) }
-        ensures timed { OnOk result ((ticks : List Tick) (sessions : List Session)
+        ensures timed { OnOk result ((ticks : List Tick) (sessions : List RunSession)
             → AreSessions ticks 1 self.old.sessions.items sessions
             → Did (AreSessions ticks 1 self.new.sessions.items) (all_timed 1 moment sessions) self.old.reporter
             self.new.reporter) }

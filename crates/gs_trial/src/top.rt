@@ -6,7 +6,8 @@ ghost use Rattle.gs_bytes.specs.Outside.{Rose, SetsFlag};
 ghost use Rattle.gs_command.specs.Words.{command_of, first_misfit};
 ghost use Rattle.gs_command.specs.declared.command.Detail as spec;
 ghost use Rattle.gs_trial.specs.Stopping.{StopsIfTold};
-ghost use Rattle.gs_trial.specs.Trial.{Answers, CompletesGenerated, CompletesIfTold, HasHead, IsGenerating, answer_of};
+ghost use Rattle.gs_trial.specs.Trial.{Answers, CompletesGenerated, CompletesIfTold, HasHead, IsGenerating};
+ghost use Rattle.gs_trial.specs.Trial.{status_answer};
 
 use crate::generating::{make, write_tape};
 use crate::script::run_script;
@@ -23,8 +24,10 @@ use std::alloc::Global;
 /// The first fault in that order ends it, and the text that was written by then stays. The text of the lines is
 /// gathered into pieces of some 64 KiB, and what waits is written before a read of either source: so who types a
 /// schedule sees what each line did, and where a read fails nothing that was done before is lost. Where memory runs
-/// out what waits isn't written. `make N T` runs the schedule that is generated over the generated capture, and writes
-/// the sums and `ok`. `tape N T` writes the generated capture file. These two read no source.
+/// out what waits isn't written. The text of one line isn't parted: all of it is gathered first, so under `bytes` a
+/// line that delivers many datagrams holds the bytes of all units that it hands or plays. `make N T` runs the schedule
+/// that is generated over the generated capture, and writes the sums and `ok`. `tape N T` writes the generated capture
+/// file. These two read no source.
 ///
 /// | Answer | When |
 /// |---|---|
@@ -98,7 +101,7 @@ pub fn trial_main<S: Source, T: Source, K: Sink>(
 
 // The answer of a trial that ended so.
 fn status_of(ended: Result<(), TrialStatus>) -> TrialStatus
-    ensures { result ≡ answer_of ended }
+    ensures { result ≡ status_answer ended }
 {
     match ended {
         Ok(()) => TrialStatus::Ok,

@@ -23,21 +23,21 @@ pub(crate) struct Trial {
 }
 
 impl Trial {
-    ghost use Rattle.std.specs.Prelude.{◌≡◌, ◌⊎◌, [], ℕ, List, Option};
-    ghost use Rattle.gs_tape.specs.Limits.{most_audio};
+    ghost use Rattle.std.specs.Prelude.{◌≡◌, [], ℕ, List, Option};
+    ghost use Rattle.gs_tape.specs.Limits.{most_audio, IsDuration};
     ghost use Rattle.gs_tape.specs.declared.stage.Stage.TheVariants.{Open};
     ghost use Rattle.gs_run.specs.CaptureFile.{CaptureFile};
     ghost use Rattle.gs_run.specs.Session.{start};
-    ghost use Rattle.gs_trial.specs.Standing.{IsFeedOf, IsReady, StandsFor};
+    ghost use Rattle.gs_trial.specs.Standing.{IsFeedOf, IsReady, IsTrialOf};
 
     /// Nothing was captured or done yet.
     pub(crate) fn new(alloc: Global, feed: Feed, detail: Detail) -> Trial
         requires none { feed.count ≡ 0 }
         requires stage { feed.tape.stage ≡ Open }
         requires audio { feed.tape.audio ≤ most_audio }
-        requires duration { (feed.tape.duration ≡ 5) ⊎ (feed.tape.duration ≡ 10) }
+        requires duration { IsDuration feed.tape.duration }
         ensures stands { (file : CaptureFile) (left : Option (List ℕ)) → IsFeedOf feed file left
-            → StandsFor result file left start }
+            → IsTrialOf result file left start }
         ensures ready { IsReady result }
         ensures text { result.reporter ≡ record { detail = detail; text = [] } }
     {

@@ -12,9 +12,10 @@ use Rattle.gs_turn.specs.declared.rule.Standing.TheVariants.{Outside, Serving}
 use Rattle.gs_turn.specs.History.{Leaves, Front, has_number, least_number, calls_under}
 use Rattle.gs_turn.specs.Standings.{tickets_held}
 use Rattle.gs_turn.specs.Rule.{Knows, Running, Kept}
+use Rattle.gs_bytes.proofs.Lists.{AllByRecursion-weaker}
 use Rattle.gs_turn.proofs.Seats.{one_view}
 use Rattle.gs_turn.proofs.Keeping.{not_fresh}
-use Rattle.gs_turn.proofs.Own.{all_weaker, has_least, number_below}
+use Rattle.gs_turn.proofs.Own.{has_least, number_below}
 
 module _ {S C R : Type 0} (steps : S → C → R → S → Type 0) (about : Opening S) (id : ℕ) (v : PassView S C R) (out : v.standing ≡ Outside)
     (all : (n : ℕ) → n < about.passes → has_number n v.own ≡ true) where
@@ -58,10 +59,10 @@ module _ {S C R : Type 0} (steps : S → C → R → S → Type 0) (about : Open
       legal = r.legal;
       front = record {
         begins = mine.front;
-        own_calls = all_weaker (λ o. (o.0 < r.made) × (calls_under o.0 r.log ≡ o.1))
+        own_calls = AllByRecursion-weaker (λ o. (o.0 < r.made) × (calls_under o.0 r.log ≡ o.1))
             (λ o. calls_under o.0 r.log ≡ o.1) v.own (λ o h. h.1) mine.own;
       };
-      calls = all_weaker (λ (e : TurnCall C R). e.number < r.made) (λ (e : TurnCall C R). has_number e.number v.own ≡ true) r.log
+      calls = AllByRecursion-weaker (λ (e : TurnCall C R). e.number < r.made) (λ (e : TurnCall C R). has_number e.number v.own ≡ true) r.log
           (λ e low. has_below e.number low) r.calls;
     }
 

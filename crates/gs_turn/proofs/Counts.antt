@@ -1,7 +1,8 @@
 -- A call joins the history.
-use Rattle.std.proofs.Common.{◌≡◌, ◌≢◌, ℕ, ◌+◌, ◌%◌, ◌^◌, ◌<◌, ◌≤◌, Bool, true, false, List, [], ◌∷◌, ◌++◌, length, set, get_or, refl, sym, ap, ap₂}
+use Rattle.std.proofs.Common.{◌≡◌, ◌≢◌, ℕ, ◌+◌, ◌%◌, ◌^◌, ◌<◌, ◌≤◌, true, false, List, [], ◌∷◌, ◌++◌, length, set, get_or, sym, ap, ap₂}
 use Rattle.std.proofs.Common.{◌∙◌, subst, inl, inr, arith, Option, Some, length-append, append-nil}
 use Rattle.std.specs.List.{AllByRecursion}
+use Rattle.std.proofs.lemmas.Bool.{false_from_ne_true}
 use mathlib.Core.Option.{some, none}
 use mathlib.Core.List.{IsPrefix}
 use lib.ListN.{get_elem?}
@@ -15,14 +16,11 @@ use Rattle.gs_turn.specs.History.{Leaves, HasOwn, turn_call, least_number, has_n
 use Rattle.gs_turn.specs.Standings.{ticket, tickets_held}
 use Rattle.gs_turn.specs.Rule.{StandsWell, Knows, Running, Kept}
 use Rattle.gs_turn.specs.Plays.{counted, after_call}
+use Rattle.gs_bytes.proofs.Lists.{AllByRecursion-weaker, AllByRecursion-append}
 use Rattle.gs_turn.proofs.Seats.{total_set, here_set, each_set, apart_set, alone_less}
 use Rattle.gs_turn.proofs.Keeping.{HasNumber, HasTicket, not_fresh}
-use Rattle.gs_turn.proofs.Own.{all_weaker, all_append, prefix_append, leaves_one_more, own_with_call, own_of_another, number_below, has_least, has_with_call}
+use Rattle.gs_turn.proofs.Own.{prefix_append, leaves_one_more, own_with_call, own_of_another, number_below, has_least, has_with_call}
 use Rattle.gs_turn.proofs.Own.{length-with_call}
-
-is_false : (b : Bool) → (b ≡ true → ⊥) → b ≡ false
-is_false true never = absurd (never refl)
-is_false false never = refl
 
 -- a pass that isn't served needs nothing of the history
 stands_past : {A : Type 0} (drawn served : ℕ) (log more front : List A) (st : Standing) → (st ≡ Serving served → ⊥) → StandsWell drawn served log front st
@@ -71,7 +69,7 @@ module _ {S C R : Type 0} (steps : S → C → R → S → Type 0) (about : Open
       ticket_of_some = subst (λ (n : ℕ). tickets_held v.standing ≤ n) (sym (length-with_call e v.own)) mine.ticket_of_some;
       of_cell = λ some. mine.of_cell numbered;
       front = ([], append-nil w.front ∙ ap (λ h. h ++ e ∷ []) stands.2);
-      olds = all_weaker (λ old. IsPrefix old r.log) (λ old. IsPrefix old log) v.olds (λ old p. prefix_append old r.log (e ∷ []) p) mine.olds;
+      olds = AllByRecursion-weaker (λ old. IsPrefix old r.log) (λ old. IsPrefix old log) v.olds (λ old p. prefix_append old r.log (e ∷ []) p) mine.olds;
       own = own_with_call r.made r.log e v.own mine.own;
       maker = mine.maker;
     }
@@ -81,13 +79,13 @@ module _ {S C R : Type 0} (steps : S → C → R → S → Type 0) (about : Open
         let k = r.known j u at_j in
         let not_served : (u.standing ≡ Serving r.served) → ⊥ = λ is. ne (r.tickets_apart j id u v r.served at_j at (ap ticket is)
         (ap ticket served ∙ ap Some stands.0)) in
-        let not_mine : has_number e.number u.own ≡ false = is_false _ (λ has. ne (r.numbers_apart j id u v e.number at_j at has my_least)) in
+        let not_mine : has_number e.number u.own ≡ false = false_from_ne_true _ (λ has. ne (r.numbers_apart j id u v e.number at_j at has my_least)) in
         record {
           stands = stands_past r.drawn r.served r.log log u.front u.standing not_served k.stands;
           ticket_of_some = k.ticket_of_some;
           of_cell = k.of_cell;
           front = prefix_append u.front r.log (e ∷ []) k.front;
-          olds = all_weaker (λ old. IsPrefix old r.log) (λ old. IsPrefix old log) u.olds (λ old p. prefix_append old r.log (e ∷ []) p) k.olds;
+          olds = AllByRecursion-weaker (λ old. IsPrefix old r.log) (λ old. IsPrefix old log) u.olds (λ old p. prefix_append old r.log (e ∷ []) p) k.olds;
           own = own_of_another r.made r.log e u.own not_mine k.own;
           maker = k.maker;
         }
@@ -120,12 +118,13 @@ module _ {S C R : Type 0} (steps : S → C → R → S → Type 0) (about : Open
           made_is = omega arith;
           few = r.few;
           fits = r.fits;
-          calls = all_append (λ (x : TurnCall C R). x.number < r.made) r.log (e ∷ []) r.calls (number_below r.made e.number r.log v.own my_least mine.own, tt);
+          calls = AllByRecursion-append (λ (x : TurnCall C R). x.number < r.made) r.log (e ∷ [])
+              r.calls (number_below r.made e.number r.log v.own my_least mine.own, tt);
         }
 
     -- the pass's own calls stand in its front
     own_stands : HasOwn w.own w.front
-    own_stands = all_weaker (λ o. (o.0 < r.made) × (calls_under o.0 w.front ≡ o.1)) (λ o. calls_under o.0 w.front ≡ o.1) w.own (λ o h. h.1)
+    own_stands = AllByRecursion-weaker (λ o. (o.0 < r.made) × (calls_under o.0 w.front ≡ o.1)) (λ o. calls_under o.0 w.front ≡ o.1) w.own (λ o h. h.1)
         (subst (λ (h : List (TurnCall C R)). AllByRecursion (λ o. (o.0 < r.made) × (calls_under o.0 h ≡ o.1)) w.own)
         (sym (ap (λ h. h ++ e ∷ []) stands.2)) now.own)
 

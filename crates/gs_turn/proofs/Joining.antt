@@ -1,6 +1,8 @@
 -- Two passes are made one.
 use Rattle.std.proofs.Common.{◌≡◌, ◌≢◌, ◌⊎◌, ℕ, zero, suc, ◌<◌, ◌==◌, ◌||◌, Bool, true, false, nat_lt, List, [], ◌∷◌, ◌++◌, length}
 use Rattle.std.proofs.Common.{set, refl, sym, ap, ◌∙◌, subst, inl, inr, ⊎_elim, arith, Option, length-append}
+use Rattle.std.proofs.lemmas.Bool.{or_cases, or_right}
+use Rattle.std.proofs.Math.Bool.{or_assoc}
 use mathlib.Core.Option.{some, none}
 use mathlib.Core.List.{IsPrefix}
 use lib.ListN.{get_elem?}
@@ -14,9 +16,9 @@ use Rattle.gs_turn.specs.History.{has_number, calls_under}
 use Rattle.gs_turn.specs.Standings.{ticket, tickets_held}
 use Rattle.gs_turn.specs.Rule.{StandsWell, Knows, Running, Kept}
 use Rattle.gs_turn.specs.Plays.{longer, joined, spent}
+use Rattle.gs_bytes.proofs.Lists.{AllByRecursion-append}
 use Rattle.gs_turn.proofs.Seats.{total_set, each_set, apart_set}
 use Rattle.gs_turn.proofs.Keeping.{HasNumber, HasTicket, housed_set, not_fresh}
-use Rattle.gs_turn.proofs.Own.{all_append, or_true}
 
 -- the longer of two is one of them
 pub longer_is : {A : Type 0} (P : List A → Type 0) (xs ys : List A) → P xs → P ys → P (longer xs ys)
@@ -39,20 +41,12 @@ number_of_either a [] ys has = inr has
 number_of_either a (x ∷ xs) ys has =
     ⊎_elim
     (λ here. inl (ap (λ b. b || has_number a xs) here))
-    (λ later. ⊎_elim (λ left. inl (later_too (a == x.0) (has_number a xs) left)) (λ right. inr right) (number_of_either a xs ys later))
-    (or_true (a == x.0) (has_number a (xs ++ ys)) has)
-  where
-    later_too : (b c : Bool) → c ≡ true → (b || c) ≡ true
-    later_too true c is = refl
-    later_too false c is = is
-
-or_all : (a b c : Bool) → (a || (b || c)) ≡ ((a || b) || c)
-or_all true b c = refl
-or_all false b c = refl
+    (λ later. ⊎_elim (λ left. inl (or_right (a == x.0) (has_number a xs) left)) (λ right. inr right) (number_of_either a xs ys later))
+    (or_cases (a == x.0) (has_number a (xs ++ ys)) has)
 
 pub numbers_of_both : {C R : Type 0} (n : ℕ) (xs ys : List (ℕ × List (TurnCall C R))) → has_number n (xs ++ ys) ≡ (has_number n xs || has_number n ys)
 numbers_of_both n [] ys = refl
-numbers_of_both n (x ∷ xs) ys = ap (λ b. (n == x.0) || b) (numbers_of_both n xs ys) ∙ or_all (n == x.0) (has_number n xs) (has_number n ys)
+numbers_of_both n (x ∷ xs) ys = ap (λ b. (n == x.0) || b) (numbers_of_both n xs ys) ∙ sym (or_assoc (n == x.0) (has_number n xs) (has_number n ys))
 
 module _ {S C R : Type 0} (steps : S → C → R → S → Type 0) (about : Opening S) where
   abbrev St : Type 0
@@ -92,7 +86,7 @@ module _ {S C R : Type 0} (steps : S → C → R → S → Type 0) (about : Open
       of_cell = λ some. mine.of_cell numbered;
       front = longer_is (λ f. IsPrefix f r.log) v.front w.front mine.front theirs.front;
       olds = (mine.front, (theirs.front, tt));
-      own = all_append (λ o. (o.0 < r.made) × (calls_under o.0 r.log ≡ o.1)) v.own w.own mine.own theirs.own;
+      own = AllByRecursion-append (λ o. (o.0 < r.made) × (calls_under o.0 r.log ≡ o.1)) v.own w.own mine.own theirs.own;
       maker = mine.maker;
     }
 

@@ -1,5 +1,5 @@
 -- What the proofs of all kinds of step share.
-use Rattle.std.proofs.Common.{◌≡◌, ◌≢◌, ℕ, ◌<◌, ◌≤◌, List, [], ◌∷◌, length, set, refl, sym, ap, ◌∙◌, subst, inl, inr, arith}
+use Rattle.std.proofs.Common.{◌≡◌, ◌≢◌, ℕ, ◌<◌, ◌≤◌, List, [], ◌∷◌, set, refl, sym, ap, ◌∙◌, subst, inl, inr, arith}
 use Rattle.std.proofs.Common.{Option, Some, None, true}
 use mathlib.Core.Option.{some, none}
 use mathlib.Core.Option as maybe
@@ -28,10 +28,6 @@ outside_is Arriving is = absurd (cc is)
 outside_is Outside is = refl
 outside_is (Waiting k) is = absurd (cc is)
 outside_is (Serving k) is = absurd (cc is)
-
-pub empty_is : {A : Type 0} (xs : List A) → length xs ≡ 0 → xs ≡ []
-empty_is [] is = refl
-empty_is (x ∷ xs) is = absurd (omega arith)
 
 module _ {S C R : Type 0} where
   abbrev pub HasNumber : ℕ → (PassView S C R) → Type 0

@@ -3,7 +3,6 @@ use Rattle.std.proofs.Common.{◌≡◌, ℕ, ◌%◌, ◌^◌, ◌==◌, Bool, 
 use Rattle.std.proofs.Common.{subst, inl, inr, ⊎_elim, arith, Option, Some}
 use Rattle.std.proofs.lemmas.Bool.Decides.{nat_tests}
 use mathlib.Core.Option.{some, none}
-use mathlib.Core.List.{IsPrefix}
 use lib.ListN.{get_elem?}
 use Rattle.atomic_table.specs.Table.{State, Me, step, Act, takes, keeps, stepped, Allows, Valid, carried_after}
 use Rattle.atomic_table.proofs.Lists.{set_again, one_turn}
@@ -13,12 +12,9 @@ use Rattle.gs_turn.specs.declared.rule.Standing.TheVariants.{Waiting, Serving}
 use Rattle.gs_turn.specs.Standings.{ticket, tickets_held}
 use Rattle.gs_turn.specs.Rule.{Knows, Running, Kept}
 use Rattle.gs_turn.specs.Plays.{saw_served}
+use Rattle.gs_bytes.proofs.Lists.{prefix_self}
 use Rattle.gs_turn.proofs.Seats.{total_set, total_le, one_view, here_set, each_set, apart_set, alone_less}
 use Rattle.gs_turn.proofs.Keeping.{ticket_within, HasNumber, HasTicket, not_fresh}
-
-pub prefix_self : {A : Type 0} (xs : List A) → IsPrefix xs xs
-prefix_self [] = ([], refl)
-prefix_self (x ∷ xs) = let r = prefix_self xs in (r.0, ap (λ ys. x ∷ ys) r.1)
 
 -- a word that is written as it was
 same_word : (ws : List ℕ) (a b c : ℕ) → ws ≡ a ∷ b ∷ c ∷ [] → set ws 1 (get_or ws 1 0) ≡ ws

@@ -1,21 +1,13 @@
 -- The calls of a pass's own numbers, when one more call joins the history.
 use Rattle.std.proofs.Common.{◌≡◌, ◌⊎◌, ℕ, ◌<◌, ◌==◌, ◌||◌, min, Bool, true, false, cond, List, [], ◌∷◌, ◌++◌, length, refl, sym, ap}
 use Rattle.std.proofs.Common.{◌∙◌, subst, inl, inr, ⊎_elim, arith, append_assoc}
-use Rattle.std.proofs.lemmas.Bool.Decides.{nat_tests}
 use Rattle.std.specs.List.{AllByRecursion}
+use Rattle.std.proofs.lemmas.Bool.{or_right, or_left, or_parts, or_cases, eq-eqb, eqb-true}
 use mathlib.Core.Logic.{dite}
 use mathlib.Core.List.{IsPrefix}
 use native.Mathlib.Decide.{dec_le}
 use Rattle.gs_turn.specs.declared.turn_call.TurnCall.{TurnCall}
 use Rattle.gs_turn.specs.History.{Leaves, calls_under, has_number, least_from, least_number, with_call}
-
-pub all_weaker : {A : Type 0} (P Q : A → Type 0) (xs : List A) → ((x : A) → P x → Q x) → AllByRecursion P xs → AllByRecursion Q xs
-all_weaker P Q [] f h = tt
-all_weaker P Q (x ∷ xs) f h = (f x h.0, all_weaker P Q xs f h.1)
-
-pub all_append : {A : Type 0} (P : A → Type 0) (xs ys : List A) → AllByRecursion P xs → AllByRecursion P ys → AllByRecursion P (xs ++ ys)
-all_append P [] ys h k = k
-all_append P (x ∷ xs) ys h k = (h.0, all_append P xs ys h.1 k)
 
 pub prefix_append : {A : Type 0} (xs ys zs : List A) → IsPrefix xs ys → IsPrefix xs (ys ++ zs)
 prefix_append xs ys zs p = (p.0 ++ zs, sym (append_assoc xs p.0 zs) ∙ ap (λ w. w ++ zs) p.1)
@@ -32,27 +24,6 @@ cond_more true true x e xs ys is = ap (λ zs. x ∷ zs) is
 cond_more true false x e xs ys is = ap (λ zs. x ∷ zs) is
 cond_more false true x e xs ys is = is
 cond_more false false x e xs ys is = is
-
-pub or_true : (a b : Bool) → (a || b) ≡ true → (a ≡ true) ⊎ (b ≡ true)
-or_true true b is = inl refl
-or_true false b is = inr is
-
-or_right : (a b : Bool) → b ≡ true → (a || b) ≡ true
-or_right true b is = refl
-or_right false b is = is
-
-or_false : (a b : Bool) → (a || b) ≡ false → (a ≡ false) × (b ≡ false)
-or_false true b is = absurd (cc is)
-or_false false b is = (refl, is)
-
-or_left : (a b : Bool) → a ≡ true → (a || b) ≡ true
-or_left a b is = ap (λ (x : Bool). x || b) is
-
-numbers_equal : (n m : ℕ) → n ≡ m → (n == m) ≡ true
-numbers_equal n m is = grind (arith, nat_tests)
-
-equal_numbers : (n m : ℕ) → (n == m) ≡ true → n ≡ m
-equal_numbers n m is = grind (arith, nat_tests)
 
 least_of : (n m : ℕ) → (min n m ≡ n) ⊎ (min n m ≡ m)
 least_of n m = dite (dec_le n m) (λ le. inl (omega (arith, le))) (λ gt. inr (omega (arith, gt)))
@@ -77,26 +48,26 @@ module _ {C R : Type 0} where
       → OwnIn made h own → OwnIn made (h ++ e ∷ []) own
   own_of_another made h e [] none is = tt
   own_of_another made h e (o ∷ os) none is =
-      let apart = or_false (e.number == o.0) (has_number e.number os) none in
+      let apart = or_parts (e.number == o.0) (has_number e.number os) none in
       ((is.0.0, under_more o.0 h e ∙ (rw apart.0 is.0.1)), own_of_another made h e os apart.1 is.1)
 
   pub number_below : (made n : ℕ) (h : List (TurnCall C R)) (own : List (ℕ × List (TurnCall C R))) → has_number n own ≡ true → OwnIn made h own → n < made
   number_below made n h [] has is = absurd (cc has)
   number_below made n h (o ∷ os) has is =
-      ⊎_elim (λ here. let same = equal_numbers n o.0 here in omega (arith, is.0.0)) (λ later. number_below made n h os later is.1)
-      (or_true (n == o.0) (has_number n os) has)
+      ⊎_elim (λ here. let same = eqb-true n o.0 here in omega (arith, is.0.0)) (λ later. number_below made n h os later is.1)
+      (or_cases (n == o.0) (has_number n os) has)
 
   least_in : (n : ℕ) (os : List (ℕ × List (TurnCall C R))) → (least_from n os ≡ n) ⊎ (has_number (least_from n os) os ≡ true)
   least_in n [] = inl refl
   least_in n (o ∷ os) =
       ⊎_elim
-      (λ is. ⊎_elim (λ a. inl (is ∙ a)) (λ b. inr (or_left _ _ (numbers_equal _ _ (is ∙ b)))) (least_of n o.0))
+      (λ is. ⊎_elim (λ a. inl (is ∙ a)) (λ b. inr (or_left _ _ (eq-eqb _ _ (is ∙ b)))) (least_of n o.0))
       (λ later. inr (or_right _ _ later))
       (least_in (min n o.0) os)
 
   pub has_least : (own : List (ℕ × List (TurnCall C R))) → 0 < length own → has_number (least_number own) own ≡ true
   has_least [] some = absurd (omega arith)
-  has_least (o ∷ os) some = ⊎_elim (λ is. or_left _ _ (numbers_equal _ _ is)) (λ later. or_right _ _ later) (least_in o.0 os)
+  has_least (o ∷ os) some = ⊎_elim (λ is. or_left _ _ (eq-eqb _ _ is)) (λ later. or_right _ _ later) (least_in o.0 os)
 
   pub has_with_call : (n : ℕ) (e : TurnCall C R) (own : List (ℕ × List (TurnCall C R))) → has_number n (with_call e own) ≡ has_number n own
   has_with_call n e [] = refl

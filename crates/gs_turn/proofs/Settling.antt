@@ -12,18 +12,9 @@ use Rattle.gs_turn.specs.declared.rule.Standing.TheVariants.{Outside, Serving}
 use Rattle.gs_turn.specs.Standings.{tickets_held}
 use Rattle.gs_turn.specs.Rule.{Knows, Kept}
 use Rattle.gs_turn.specs.Plays.{longer, settled}
+use Rattle.gs_bytes.proofs.Lists.{prefix_shorter}
 use Rattle.gs_turn.proofs.Seats.{total_set, each_set, apart_set, alone_less}
 use Rattle.gs_turn.proofs.Keeping.{HasNumber, HasTicket, housed_set, not_fresh}
-
--- of two beginnings of one list the shorter begins the longer
-pub prefix_shorter : {A : Type 0} (xs ys zs : List A) → IsPrefix xs zs → IsPrefix ys zs → length xs ≤ length ys → IsPrefix xs ys
-prefix_shorter [] ys zs p q le = (ys, refl)
-prefix_shorter (x ∷ xs) [] zs p q le = absurd (omega arith)
-prefix_shorter (x ∷ xs) (y ∷ ys) [] p q le = absurd (cc (p.1))
-prefix_shorter (x ∷ xs) (y ∷ ys) (z ∷ zs) p q le =
-    let heads : x ≡ y = cc (p.1, q.1) in
-    let rest = prefix_shorter xs ys zs (p.0, cc (p.1)) (q.0, cc (q.1)) (omega arith) in
-    (rest.0, cc (heads, rest.1))
 
 begin_front : {A : Type 0} (front log : List A) (olds : List (List A)) → IsPrefix front log → AllByRecursion (λ old. IsPrefix old log) olds → AllByRecursion
     (λ old. length old ≤ length front) olds → AllByRecursion (λ old. IsPrefix old front) olds

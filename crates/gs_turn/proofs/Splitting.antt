@@ -3,6 +3,7 @@ use Rattle.std.proofs.Common.{◌≡◌, ◌≢◌, ℕ, ◌+◌, ◌<◌, ◌==
 use Rattle.std.proofs.Common.{subst, inl, inr, ⊎_elim, arith, Option}
 use Rattle.std.proofs.lemmas.Bool.Decides.{nat_tests}
 use Rattle.std.specs.List.{AllByRecursion}
+use Rattle.std.proofs.lemmas.Bool.{or_cases}
 use mathlib.Core.Option.{some, none}
 use mathlib.Core.Logic.{dite}
 use native.Mathlib.Decide.{ℕ_discrete}
@@ -17,21 +18,20 @@ use Rattle.gs_turn.specs.History.{has_number, calls_under}
 use Rattle.gs_turn.specs.Standings.{tickets_held}
 use Rattle.gs_turn.specs.Rule.{Knows, Housed, Running, Kept}
 use Rattle.gs_turn.specs.Plays.{with_next_made, numbered_next}
+use Rattle.gs_bytes.proofs.Lists.{AllByRecursion-weaker}
+use Rattle.gs_bytes.proofs.Cases.{less_is_other}
 use Rattle.gs_turn.proofs.Seats.{total_set, total_snoc, each_set, each_snoc, apart_set, apart_snoc, alone_less, here_set, one_view}
 use Rattle.gs_turn.proofs.Keeping.{HasNumber, HasTicket, not_fresh}
-use Rattle.gs_turn.proofs.Own.{all_weaker, OwnIn, number_below, or_true}
-
-differ : (n m : ℕ) → n < m → (n == m) ≡ false
-differ n m low = grind (arith, nat_tests)
+use Rattle.gs_turn.proofs.Own.{OwnIn, number_below}
 
 -- no call was made under a number that no pass has yet
 none_under : {C R : Type 0} (made : ℕ) (log : List (TurnCall C R)) → AllByRecursion (λ (e : TurnCall C R). e.number < made) log → calls_under made log ≡ []
 none_under made [] all = refl
-none_under made (e ∷ es) all = rw (differ e.number made all.0) (none_under made es all.1)
+none_under made (e ∷ es) all = rw (less_is_other e.number made all.0) (none_under made es all.1)
 
 -- the one number of a new pass
 only_number : (C R : Type 0) (made a : ℕ) → has_number {C = C} {R = R} a ((made, []) ∷ []) ≡ true → a ≡ made
-only_number C R made a has = ⊎_elim (λ (h : (a == made) ≡ true). grind (arith, nat_tests)) (λ h. absurd (cc h)) (or_true (a == made) false has)
+only_number C R made a has = ⊎_elim (λ (h : (a == made) ≡ true). grind (arith, nat_tests)) (λ h. absurd (cc h)) (or_cases (a == made) false has)
 
 module _ {S C R : Type 0} (steps : S → C → R → S → Type 0) (about : Opening S) where
   abbrev St : Type 0
@@ -55,7 +55,7 @@ module _ {S C R : Type 0} (steps : S → C → R → S → Type 0) (about : Open
     made_is = mine.maker makes
 
     own_later : (own : List (ℕ × List (TurnCall C R))) → OwnIn r.made r.log own → OwnIn (r.made + 1) r.log own
-    own_later own is = all_weaker (λ o. (o.0 < r.made) × (calls_under o.0 r.log ≡ o.1)) (λ o. (o.0 < r.made + 1) × (calls_under o.0 r.log ≡ o.1)) own
+    own_later own is = AllByRecursion-weaker (λ o. (o.0 < r.made) × (calls_under o.0 r.log ≡ o.1)) (λ o. (o.0 < r.made + 1) × (calls_under o.0 r.log ≡ o.1)) own
         (λ o h. let low = h.0 in (omega (arith, low), h.1)) is
 
     now : Knows r.drawn r.served (r.made + 1) about.state r.log id w
@@ -133,7 +133,7 @@ module _ {S C R : Type 0} (steps : S → C → R → S → Type 0) (about : Open
           made_is = omega arith;
           few = omega (arith, room, e);
           fits = r.fits;
-          calls = all_weaker (λ (x : TurnCall C R). x.number < r.made) (λ (x : TurnCall C R). x.number < r.made + 1) r.log
+          calls = AllByRecursion-weaker (λ (x : TurnCall C R). x.number < r.made) (λ (x : TurnCall C R). x.number < r.made + 1) r.log
               (λ x low. omega (arith, low)) r.calls;
         }
       where

@@ -1,6 +1,6 @@
-pub mod Cells
 pub mod History
+pub mod Cells
 pub mod Plays
-pub mod Rule
 pub mod Standings
+pub mod Rule
 pub mod Turns

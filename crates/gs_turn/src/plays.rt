@@ -1,6 +1,7 @@
 //! What each kind of atomic step tells the pass that makes it. These types are for the proofs alone.
 ghost use Rattle.std.specs.Prelude.{List, [], ◌∷◌};
-ghost use Rattle.gs_turn.specs.Plays.{arrived, drew, saw_served, counted, gave_back, settled, numbered_next, with_next_made, joined, spent};
+ghost use Rattle.gs_turn.specs.Plays.{arrived, drew, saw_served, counted, gave_back, settled, numbered_next};
+ghost use Rattle.gs_turn.specs.Plays.{with_next_made, joined, spent};
 
 use crate::rule::PassView;
 use crate::turned::Turned;

@@ -4,6 +4,7 @@ use Rattle.std.proofs.Common.{subst, ◌∙◌, arith}
 use Rattle.std.specs.List.{AllByRecursion}
 use Rattle.std.proofs.lemmas.Bool.Decides.{nat_tests}
 use Rattle.std.proofs.Math.Nat.{mod-add-mod, mul-le-mul_right, suc-mul, zero-mul}
+use Rattle.std.proofs.lemmas.Bool.{or_right, eqb-true}
 use Rattle.gs_turn.specs.declared.turned.Turned.{Ghosts}
 use Rattle.gs_turn.specs.declared.turn_call.TurnCall.{TurnCall}
 use Rattle.gs_turn.specs.declared.pass.Pass.{Pass}
@@ -11,6 +12,7 @@ use Rattle.gs_turn.specs.declared.turn.Turn.{Turn}
 use Rattle.gs_turn.specs.Cells.{AreNewPasses, IsNewPass}
 use Rattle.gs_turn.specs.History.{HasOwn, Leaves, calls_under, has_number, least_number, turn_call, with_call}
 use Rattle.gsbench.specs.Calling.{HasCalled, HaveCalled}
+use Rattle.gs_bytes.proofs.Cases.{less_is_other}
 
 -- ---- new passes
 
@@ -34,16 +36,6 @@ module _ {S C R : Type 0} {g : Ghosts S C R} (t : Turn S C R) where
 
 is_equal : (n : ℕ) → (n == n) ≡ true
 is_equal n = grind (arith, nat_tests)
-
-is_other : (n m : ℕ) → n < m → (n == m) ≡ false
-is_other n m less = grind (arith, nat_tests)
-
-equal_is : (n m : ℕ) → (n == m) ≡ true → n ≡ m
-equal_is n m is = grind (arith, nat_tests)
-
-or_there : (a b : Bool) → b ≡ true → (a || b) ≡ true
-or_there true b is = refl
-or_there false b is = is
 
 -- 1 for a test that holds
 abbrev hit : Bool → ℕ
@@ -108,7 +100,7 @@ module _ {C R : Type 0} where
       let below : i < length os = omega (arith, low) in
       let there : has_number (number + suc i) os ≡ true =
       subst There same (numbers_called (number + 1) count i os have.2 below) in
-      or_there (number + suc i == o.0) (has_number (number + suc i) os) there
+      or_right (number + suc i == o.0) (has_number (number + suc i) os) there
 
   pub all_numbers : (count i : ℕ) (own : List (ℕ × List (TurnCall C R))) → HaveCalled 0 count own → i < length own → has_number i own ≡ true
   all_numbers count i own have low =
@@ -129,7 +121,7 @@ module _ {C R : Type 0} where
   hits_none : (number count n : ℕ) (own : List (ℕ × List (TurnCall C R))) → HaveCalled number count own → n < number → hits n own ≡ 0
   hits_none number count n [] have low = refl
   hits_none number count n (o ∷ os) have low =
-      let here : hit (n == o.0) ≡ 0 = ap hit (is_other n o.0 (omega (arith, have.0, low))) in
+      let here : hit (n == o.0) ≡ 0 = ap hit (less_is_other n o.0 (omega (arith, have.0, low))) in
       let there = hits_none (number + 1) count n os have.2 (omega (arith, low)) in
       omega (arith, here, there)
 
@@ -139,7 +131,7 @@ module _ {C R : Type 0} where
       let Hits : Bool → Type 0 = λ b. (n == o.0) ≡ b → (b || has_number n os) ≡ true → hit b + hits n os ≡ 1 in
       elim (n == o.0) as Hits [
         | true ↦ λ is _.
-            let none = hits_none (number + 1) count n os have.2 (omega (arith, have.0, equal_is n o.0 is)) in
+            let none = hits_none (number + 1) count n os have.2 (omega (arith, have.0, eqb-true n o.0 is)) in
             omega (arith, none)
         | false ↦ λ _ later. let one = hits_one (number + 1) count n os have.2 later in omega (arith, one)
       ] refl has

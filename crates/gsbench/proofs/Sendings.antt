@@ -10,7 +10,7 @@ use Rattle.std.proofs.lemmas.Simd.{map-map}
 use Rattle.byteorder.specs.Endian.{little_bytes}
 use Rattle.byteorder.specs.Numbers.{length-bytes_low_first}
 use Rattle.gs_frames.specs.Client.{Arrival, Datagram, datagrams}
-use Rattle.gsbench.specs.Sending.{arriving, is_lost, numbered, sent_of}
+use Rattle.gsbench.specs.Sending.{arriving, is_dropped, numbered_bytes, sent_of}
 
 -- ---- a datagram whose number is set again
 
@@ -34,10 +34,10 @@ set_front frame bytes long =
 set_back : (frame : ℕ) (bytes : List ℕ) → 32 ≤ length bytes → drop 24 (set_in frame bytes) ≡ drop 24 bytes
 set_back frame bytes long = drop_at (take 20 bytes ++ little_bytes 4 frame) (drop 24 bytes) 24 (front_long frame bytes long)
 
-numbered_again : (g frame : ℕ) (bytes : List ℕ) → numbered g (numbered frame bytes) ≡ numbered g bytes
+numbered_again : (g frame : ℕ) (bytes : List ℕ) → numbered_bytes g (numbered_bytes frame bytes) ≡ numbered_bytes g bytes
 numbered_again g frame bytes =
     let At : Bool → Type 0 =
-    λ b. nat_le 32 (length bytes) ≡ b → numbered g (cond b (set_in frame bytes) bytes) ≡ numbered g bytes in
+    λ b. nat_le 32 (length bytes) ≡ b → numbered_bytes g (cond b (set_in frame bytes) bytes) ≡ numbered_bytes g bytes in
     elim (nat_le 32 (length bytes)) as At [
       | true ↦ λ is.
           let long : 32 ≤ length bytes = leb-true 32 (length bytes) is in
@@ -53,87 +53,84 @@ numbered_again g frame bytes =
 -- ---- one that comes behind others
 
 arriving_more : (every before : ℕ) (xs : List (List ℕ)) (x : List ℕ)
-    → arriving every before (xs ++ x ∷ []) ≡ arriving every before xs ++ cond (is_lost every (before + length xs + 1)) [] (x ∷ [])
+    → arriving every before (xs ++ x ∷ []) ≡ arriving every before xs ++ cond (is_dropped every (before + length xs + 1)) [] (x ∷ [])
 arriving_more every before [] x =
-    let At : Bool → Type 0 = λ b. cond b [] (x ∷ []) ≡ [] ++ cond (is_lost every (before + 0 + 1)) [] (x ∷ []) in
+    let At : Bool → Type 0 = λ b. cond b [] (x ∷ []) ≡ [] ++ cond (is_dropped every (before + 0 + 1)) [] (x ∷ []) in
     let same : before + 0 + 1 ≡ before + 1 = omega arith in
-    ap (λ (n : ℕ). cond (is_lost every n) [] (x ∷ [])) (sym same)
+    ap (λ (n : ℕ). cond (is_dropped every n) [] (x ∷ [])) (sym same)
 arriving_more every before (y ∷ ys) x =
-    let Lost : Bool = is_lost every (before + 1) in
+    let Lost : Bool = is_dropped every (before + 1) in
     let rest : List (List ℕ) = arriving every (before + 1) ys in
     let same : before + 1 + length ys + 1 ≡ before + suc (length ys) + 1 = omega arith in
-    let last : ℕ → List (List ℕ) = λ n. cond (is_lost every n) [] (x ∷ []) in
+    let last : ℕ → List (List ℕ) = λ n. cond (is_dropped every n) [] (x ∷ []) in
     let more : arriving every (before + 1) (ys ++ x ∷ []) ≡ rest ++ last (before + suc (length ys) + 1) =
     arriving_more every (before + 1) ys x ∙ ap (λ (n : ℕ). rest ++ last n) same in
     let At : Bool → Type 0 = λ b. cond b (arriving every (before + 1) (ys ++ x ∷ [])) (y ∷ arriving every (before + 1) (ys ++ x ∷ []))
     ≡ cond b rest (y ∷ rest) ++ last (before + suc (length ys) + 1) in
-    elim (is_lost every (before + 1)) as At [ true ↦ more | false ↦ ap (λ (l : List (List ℕ)). y ∷ l) more ]
+    elim (is_dropped every (before + 1)) as At [ true ↦ more | false ↦ ap (λ (l : List (List ℕ)). y ∷ l) more ]
 
 -- as arrivals, the newest first
 abbrev pub newest_first : ℕ → List (List ℕ) → List Arrival
 newest_first every xs = datagrams (reverse (arriving every 0 xs))
 
-lost_more : (every number : ℕ) (xs : List (List ℕ)) (x : List ℕ) → number ≡ length xs + 1 → is_lost every number ≡ true
+lost_more : (every number : ℕ) (xs : List (List ℕ)) (x : List ℕ) → number ≡ length xs + 1 → is_dropped every number ≡ true
     → newest_first every (xs ++ x ∷ []) ≡ newest_first every xs
 lost_more every number xs x is lost =
-    let here : is_lost every (0 + length xs + 1) ≡ true = ap (is_lost every) (omega (arith, is)) ∙ lost in
+    let here : is_dropped every (0 + length xs + 1) ≡ true = ap (is_dropped every) (omega (arith, is)) ∙ lost in
     let more : arriving every 0 (xs ++ x ∷ []) ≡ arriving every 0 xs =
     arriving_more every 0 xs x ∙ ap (λ (b : Bool). arriving every 0 xs ++ cond b [] (x ∷ [])) here ∙ append-nil (arriving every 0 xs) in
     ap (λ (l : List (List ℕ)). datagrams (reverse l)) more
 
-came_more : (every number : ℕ) (xs : List (List ℕ)) (x : List ℕ) → number ≡ length xs + 1 → is_lost every number ≡ false
+came_more : (every number : ℕ) (xs : List (List ℕ)) (x : List ℕ) → number ≡ length xs + 1 → is_dropped every number ≡ false
     → newest_first every (xs ++ x ∷ []) ≡ Datagram x ∷ newest_first every xs
 came_more every number xs x is lost =
-    let here : is_lost every (0 + length xs + 1) ≡ false = ap (is_lost every) (omega (arith, is)) ∙ lost in
+    let here : is_dropped every (0 + length xs + 1) ≡ false = ap (is_dropped every) (omega (arith, is)) ∙ lost in
     let more : arriving every 0 (xs ++ x ∷ []) ≡ arriving every 0 xs ++ x ∷ [] =
     arriving_more every 0 xs x ∙ ap (λ (b : Bool). arriving every 0 xs ++ cond b [] (x ∷ [])) here in
     ap (λ (l : List (List ℕ)). datagrams (reverse l)) more ∙ ap datagrams (reverse-append (arriving every 0 xs) (x ∷ []))
 
 -- what a queue or a client stands for behind one more that is lost, or that comes
 pub stands_lost : (At : List Arrival → Type 0) (every number : ℕ) (xs all : List (List ℕ)) (x : List ℕ) (came : List Arrival)
-    → number ≡ length xs + 1 → is_lost every number ≡ true → all ≡ xs ++ x ∷ [] → At (newest_first every xs ++ came)
+    → number ≡ length xs + 1 → is_dropped every number ≡ true → all ≡ xs ++ x ∷ [] → At (newest_first every xs ++ came)
     → At (newest_first every all ++ came)
 stands_lost At every number xs all x came is lost more stands =
     let Of : List Arrival → Type 0 = λ front. At (front ++ came) in
     subst Of (sym (ap (newest_first every) more ∙ lost_more every number xs x is lost)) stands
 
 pub stands_came : (At : List Arrival → Type 0) (every number : ℕ) (xs all : List (List ℕ)) (x : List ℕ) (came : List Arrival)
-    → number ≡ length xs + 1 → is_lost every number ≡ false → all ≡ xs ++ x ∷ [] → At (Datagram x ∷ (newest_first every xs ++ came))
+    → number ≡ length xs + 1 → is_dropped every number ≡ false → all ≡ xs ++ x ∷ [] → At (Datagram x ∷ (newest_first every xs ++ came))
     → At (newest_first every all ++ came)
 stands_came At every number xs all x came is lost more stands =
     let Of : List Arrival → Type 0 = λ front. At (front ++ came) in
     subst Of (sym (ap (newest_first every) more ∙ came_more every number xs x is lost)) stands
-
-pub length_one_more : {A : Type 0} (xs : List A) (x : A) → length (xs ++ x ∷ []) ≡ length xs + 1
-length_one_more xs x = length-append xs (x ∷ [])
 
 -- ---- the datagrams of a frame, in a list of anything that has bytes
 
 module _ {X : Type 0} (items : X → List ℕ) where
   -- they differ in the number alone
   abbrev pub AreSame : List X → List X → Type 0
-  AreSame old new = (g : ℕ) → map (λ (d : X). numbered g (items d)) new ≡ map (λ (d : X). numbered g (items d)) old
+  AreSame old new = (g : ℕ) → map (λ (d : X). numbered_bytes g (items d)) new ≡ map (λ (d : X). numbered_bytes g (items d)) old
 
   pub same_at_first : (old : List X) → AreSame old old
   same_at_first old = λ g. refl
 
-  pub same_set : (frame k : ℕ) (old new : List X) (y d : X) → AreSame old new → items y ≡ numbered frame (items (get_or new k d))
+  pub same_set : (frame k : ℕ) (old new : List X) (y d : X) → AreSame old new → items y ≡ numbered_bytes frame (items (get_or new k d))
       → AreSame old (set new k y)
   same_set frame k old new y d same is = λ g.
-      map-set_same (λ (x : X). numbered g (items x)) new k y d (ap (numbered g) is ∙ numbered_again g frame (items (get_or new k d))) ∙ same g
+      map-set_same (λ (x : X). numbered_bytes g (items x)) new k y d (ap (numbered_bytes g) is ∙ numbered_again g frame (items (get_or new k d))) ∙ same g
 
   pub same_long : (old new : List X) → AreSame old new → length new ≡ length old
   same_long old new same =
-      sym (length-map new (λ (d : X). numbered 0 (items d))) ∙ ap length (same 0) ∙ length-map old (λ (d : X). numbered 0 (items d))
+      sym (length-map new (λ (d : X). numbered_bytes 0 (items d))) ∙ ap length (same 0) ∙ length-map old (λ (d : X). numbered_bytes 0 (items d))
 
   -- all of the frames before this one, and the first k of this one
   abbrev pub sent_up_to : ℕ → ℕ → List X → List (List ℕ)
-  sent_up_to frame k all = sent_of (frame - 1) (map items all) ++ take k (map (λ (d : X). numbered frame (items d)) all)
+  sent_up_to frame k all = sent_of (frame - 1) (map items all) ++ take k (map (λ (d : X). numbered_bytes frame (items d)) all)
 
-  pub one_more : (frame k : ℕ) (old new : List X) (y d : X) → AreSame old new → k < length new → items y ≡ numbered frame (items (get_or new k d))
+  pub one_more : (frame k : ℕ) (old new : List X) (y d : X) → AreSame old new → k < length new → items y ≡ numbered_bytes frame (items (get_or new k d))
       → sent_up_to frame (k + 1) old ≡ sent_up_to frame k old ++ items y ∷ []
   one_more frame k old new y d same low is =
-      let F : X → List ℕ = λ x. numbered frame (items x) in
+      let F : X → List ℕ = λ x. numbered_bytes frame (items x) in
       let front : List (List ℕ) = sent_of (frame - 1) (map items old) in
       let here : take (k + 1) (map F old) ≡ take k (map F old) ++ items y ∷ [] =
       ap (take (k + 1)) (sym (same frame)) ∙ take-map F (k + 1) new ∙ map_more F new k d low
@@ -146,19 +143,19 @@ module _ {X : Type 0} (items : X → List ℕ) where
 
   pub whole_frame : (frame k : ℕ) (all : List X) → 1 ≤ frame → k ≡ length all → sent_up_to frame k all ≡ sent_of frame (map items all)
   whole_frame frame k all least is =
-      let F : X → List ℕ = λ x. numbered frame (items x) in
+      let F : X → List ℕ = λ x. numbered_bytes frame (items x) in
       let n : ℕ = frame - 1 in
       let front : List (List ℕ) = sent_of n (map items all) in
       let next : frame ≡ suc n = omega (arith, least) in
       let long : k ≡ length (map F all) = is ∙ sym (length-map all F) in
-      let every : take k (map F all) ≡ map (numbered frame) (map items all) =
-      ap (λ (m : ℕ). take m (map F all)) long ∙ take-length (map F all) ∙ sym (map-map (numbered frame) items all) in
-      ap (λ (l : List (List ℕ)). front ++ l) every ∙ ap (λ (m : ℕ). front ++ map (numbered m) (map items all)) next
+      let every : take k (map F all) ≡ map (numbered_bytes frame) (map items all) =
+      ap (λ (m : ℕ). take m (map F all)) long ∙ take-length (map F all) ∙ sym (map-map (numbered_bytes frame) items all) in
+      ap (λ (l : List (List ℕ)). front ++ l) every ∙ ap (λ (m : ℕ). front ++ map (numbered_bytes m) (map items all)) next
       ∙ ap (λ (m : ℕ). sent_of m (map items all)) (sym next)
 
 -- ---- a number that is set in place
 
-pub numbered_long : (frame : ℕ) (bytes : List ℕ) → length (numbered frame bytes) ≡ length bytes
+pub numbered_long : (frame : ℕ) (bytes : List ℕ) → length (numbered_bytes frame bytes) ≡ length bytes
 numbered_long frame bytes =
     let At : Bool → Type 0 = λ b. nat_le 32 (length bytes) ≡ b → length (cond b (set_in frame bytes) bytes) ≡ length bytes in
     elim (nat_le 32 (length bytes)) as At [
@@ -167,10 +164,10 @@ numbered_long frame bytes =
     ] refl
 
 -- what stands in a vector of n bytes that are written over as a slice
-pub written_over : (frame n : ℕ) (old was new : List ℕ) → n ≡ length old → was ≡ old → new ≡ numbered frame was
-    → take n (new ++ drop (length new) old) ≡ numbered frame old
+pub written_over : (frame n : ℕ) (old was new : List ℕ) → n ≡ length old → was ≡ old → new ≡ numbered_bytes frame was
+    → take n (new ++ drop (length new) old) ≡ numbered_bytes frame old
 written_over frame n old was new many is set =
-    let here : new ≡ numbered frame old = set ∙ ap (numbered frame) is in
+    let here : new ≡ numbered_bytes frame old = set ∙ ap (numbered_bytes frame) is in
     let long : length new ≡ n = ap length here ∙ numbered_long frame old ∙ sym many in
     let none : drop (length new) old ≡ [] = drop_all (length new) old (omega (arith, long, many)) in
     ap (λ (l : List ℕ). take n (new ++ l)) none ∙ ap (take n) (append-nil new) ∙ take_all n new (omega (arith, long)) ∙ here

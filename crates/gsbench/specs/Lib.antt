@@ -1,3 +1,4 @@
+pub mod Amounts
 pub mod Calling
 pub mod Checksum
 pub mod Making

@@ -17,8 +17,8 @@ abbrev pub number_word : List (String Global) → ℕ → ℕ → ℕ → Option
 number_word words place least most = option_and_then (number_within least most) (slice_get words place)
 
 -- the number of the word at a place, 0 where it is none
-abbrev pub value_at : List (String Global) → ℕ → ℕ → ℕ → ℕ
-value_at words place least most = unwrap_or (number_word words place least most) 0
+abbrev pub word_value : List (String Global) → ℕ → ℕ → ℕ → ℕ
+word_value words place least most = unwrap_or (number_word words place least most) 0
 
 -- the least and the greatest number that a word may be
 pub record Limits : Type 0 where
@@ -30,7 +30,7 @@ from_to least most = record { least = least; most = most }
 
 -- The number, from 1, of the first word that doesn't fit or is missing, where from this place on there are to be
 -- numbers within these limits and no more; none where all fit.
-abbrev pub misfit_from : ℕ → List Limits → List (String Global) → Option ℕ
-misfit_from place [] words = if nat_le (length words) place then None else Some (place + 1)
-misfit_from place (l ∷ ls) words =
-    if is_some (number_word words place l.least l.most) then misfit_from (place + 1) ls words else Some (place + 1)
+abbrev pub word_misfit_from : ℕ → List Limits → List (String Global) → Option ℕ
+word_misfit_from place [] words = if nat_le (length words) place then None else Some (place + 1)
+word_misfit_from place (l ∷ ls) words =
+    if is_some (number_word words place l.least l.most) then word_misfit_from (place + 1) ls words else Some (place + 1)

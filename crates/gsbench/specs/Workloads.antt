@@ -13,7 +13,7 @@ use Rattle.gsbench.specs.declared.report.Stop.{Stop}
 use Rattle.gsbench.specs.declared.report.Stop.TheVariants.{Usage}
 use Rattle.gsbench.specs.declared.workload.Workload.{Workload}
 use Rattle.gsbench.specs.declared.workload.Workload.TheVariants as workload
-use Rattle.gsbench.specs.Words.{Limits, from_to, misfit_from, number_word, value_at}
+use Rattle.gsbench.specs.Words.{Limits, from_to, word_misfit_from, number_word, word_value}
 
 -- any number of 32 bits, and how often a workload is done
 abbrev pub any_number : Limits
@@ -27,15 +27,15 @@ abbrev pub mul_add_limits : List Limits
 mul_add_limits = from_to 1 1048576 ∷ any_count ∷ []
 
 -- how many data shards a code has, and parity shards
-abbrev pub data_of : List (String Global) → ℕ
-data_of words = value_at words 1 1 255
+abbrev pub data_count : List (String Global) → ℕ
+data_count words = word_value words 1 1 255
 
 abbrev pub parity_of : List (String Global) → ℕ
-parity_of words = value_at words 2 0 (255 - data_of words)
+parity_of words = word_value words 2 0 (255 - data_count words)
 
 -- data shards, parity shards, the bytes of one, and more
 abbrev pub code_limits : List (String Global) → List Limits → List Limits
-code_limits words rest = from_to 1 255 ∷ from_to 0 (255 - data_of words) ∷ from_to 1 65536 ∷ rest
+code_limits words rest = from_to 1 255 ∷ from_to 0 (255 - data_count words) ∷ from_to 1 65536 ∷ rest
 
 abbrev pub encode_limits : List (String Global) → List Limits
 encode_limits words = code_limits words (any_count ∷ [])
@@ -44,7 +44,7 @@ abbrev pub parity_limits : List (String Global) → List Limits
 parity_limits words = code_limits words (any_number ∷ any_count ∷ [])
 
 abbrev pub restore_limits : List (String Global) → List Limits
-restore_limits words = code_limits words (from_to 0 (min (data_of words) (parity_of words)) ∷ any_count ∷ [])
+restore_limits words = code_limits words (from_to 0 (min (data_count words) (parity_of words)) ∷ any_count ∷ [])
 
 -- messages given before each writing
 abbrev pub messages_limits : List Limits
@@ -128,7 +128,7 @@ limits_of words workload.New = new_limits
 -- the number, from 1, of the first word that doesn't fit or is missing: the first one where it names no workload
 abbrev pub misfit_at : List (String Global) → Option Workload → Option ℕ
 misfit_at words None = Some 1
-misfit_at words (Some named) = misfit_from 1 (limits_of words named) words
+misfit_at words (Some named) = word_misfit_from 1 (limits_of words named) words
 
 abbrev pub misfit : List (String Global) → Option ℕ
 misfit words = misfit_at words (workload_named (first_word words))
@@ -137,14 +137,14 @@ misfit words = misfit_at words (workload_named (first_word words))
 abbrev pub IsJudgedBy : Option ℕ → Result Report Stop → Type 0
 IsJudgedBy bad result = (word : ℕ) → (result ≡ Err (Usage word)) ↔ (bad ≡ Some word)
 
-abbrev pub IsJudged : List Limits → List (String Global) → Result Report Stop → Type 0
-IsJudged limits words result = IsJudgedBy (misfit_from 1 limits words) result
+abbrev pub AreWordsJudged : List Limits → List (String Global) → Result Report Stop → Type 0
+AreWordsJudged limits words result = IsJudgedBy (word_misfit_from 1 limits words) result
 
 -- a word of the code doesn't fit
 abbrev pub IsStopAtCode : List (String Global) → Stop → Type 0
 IsStopAtCode words stop =
     ((stop ≡ Usage 2) × (number_word words 1 1 255 ≡ None))
-    ⊎ ((stop ≡ Usage 3) × (number_word words 1 1 255 ≢ None) × (number_word words 2 0 (255 - data_of words) ≡ None))
+    ⊎ ((stop ≡ Usage 3) × (number_word words 1 1 255 ≢ None) × (number_word words 2 0 (255 - data_count words) ≡ None))
 
 -- a word of a stream's settings doesn't fit
 abbrev pub IsStopAtStream : List (String Global) → Stop → Type 0

@@ -1,7 +1,9 @@
 // The table of workloads.
 
-ghost use Rattle.std.specs.Prelude.{◌≡◌, ◌<◌, IfOk};
-ghost use Rattle.gsbench.specs.Workloads.{IsJudged, IsJudgedBy, first_word, limits_of, misfit, misfit_at};
+ghost use Rattle.std.specs.Prelude.{◌≡◌, ◌<◌, IfOk, IfSome};
+ghost use Rattle.gsbench.specs.Amounts.{ReportsOf};
+ghost use Rattle.gsbench.specs.Workloads.{AreWordsJudged, IsJudgedBy, first_word, limits_of, misfit, misfit_at};
+ghost use Rattle.gsbench.specs.Workloads.{workload_named};
 
 use crate::report::{Report, Stop};
 use crate::workload::{Workload, workload_named};
@@ -27,8 +29,9 @@ fn run<R: Threads + Wait + Sync>(
     workload: Workload,
     words: &[String],
 ) -> Result<Report, Stop>
-    ensures usage { IsJudged (limits_of words.now workload) words.now result }
+    ensures usage { AreWordsJudged (limits_of words.now workload) words.now result }
     ensures amount { IfOk result (λ report. 0 < report.amount) }
+    ensures reports { IfOk result (λ report. ReportsOf words.now workload report) }
 {
     match workload {
         Workload::MulAdd => rows::run(alloc, words),
@@ -57,6 +60,7 @@ fn run_named<R: Threads + Wait + Sync>(
 ) -> Result<Report, Stop>
     ensures usage { IsJudgedBy (misfit_at words.now workload) result }
     ensures amount { IfOk result (λ report. 0 < report.amount) }
+    ensures reports { IfOk result (λ report. IfSome workload (λ named. ReportsOf words.now named report)) }
 {
     match workload {
         Some(workload) => run(rt, alloc, workload, words),
@@ -72,6 +76,8 @@ pub fn bench<R: Threads + Wait + Sync>(
 ) -> Result<Report, Stop>
     ensures usage { IsJudgedBy (misfit words.now) result }
     ensures amount { IfOk result (λ report. 0 < report.amount) }
+    ensures reports { IfOk result (λ report. IfSome (workload_named (first_word words.now))
+        (λ named. ReportsOf words.now named report)) }
 {
     run_named(rt, alloc, workload_named(first_word(words)), words)
 }

@@ -1,8 +1,9 @@
 // Frames chosen for a session, of which its client loses some.
 ghost use Rattle.std.specs.Prelude.{◌≡◌, ◌+◌, ◌<◌, ◌≤◌, IfErr, IfOk};
 ghost use Rattle.gs_refs.specs.History.{frames};
+ghost use Rattle.gsbench.specs.Amounts.{Reports, choose_amount};
 ghost use Rattle.gsbench.specs.Report.{IsNoUsage};
-ghost use Rattle.gsbench.specs.Workloads.{IsJudged, choose_limits};
+ghost use Rattle.gsbench.specs.Workloads.{AreWordsJudged, choose_limits};
 
 use crate::report::{Counted, Report, Stop};
 use crate::sample::checksum;
@@ -26,8 +27,9 @@ const UNIT: [u8; 4] = *b"unit";
 
 /// `choose COUNT`: a unit chosen of each of so many ticks, and a range of lost frames each time that 30 were sent.
 pub fn run(alloc: Global, words: &[String]) -> Result<Report, Stop>
-    ensures usage { IsJudged choose_limits words.now result }
+    ensures usage { AreWordsJudged choose_limits words.now result }
     ensures amount { IfOk result (λ report. 0 < report.amount) }
+    ensures reports { IfOk result (λ report. Reports Counted.Calls (choose_amount words.now) report) }
 {
     let count = number_at(words, 1, 1, FRAME_GREATEST)?;
     expect_end(words, 2)?;

@@ -2,8 +2,9 @@
 ghost use Rattle.std.specs.Prelude.{◌≡◌, ◌-◌, ◌*◌, ◌<◌, ◌++◌, length, IfOk, MatchResult, Some};
 ghost use Rattle.gs_rs.specs.Codeword.{IsBlock};
 ghost use Rattle.gs_rs.specs.Shape.{shard_count, IsCode};
+ghost use Rattle.gsbench.specs.Amounts.{Reports, code_amount};
 ghost use Rattle.gsbench.specs.Words.{number_word};
-ghost use Rattle.gsbench.specs.Workloads.{IsJudged, IsStopAtCode, encode_limits, parity_limits, restore_limits};
+ghost use Rattle.gsbench.specs.Workloads.{AreWordsJudged, IsStopAtCode, encode_limits, parity_limits, restore_limits};
 
 use crate::report::{Counted, Report, Stop};
 use crate::sample::{SEED, checksum, made};
@@ -27,8 +28,9 @@ fn code_of(words: &[String]) -> Result<Code, Stop>
 
 /// `encode D P LEN COUNT`.
 pub fn run_encode(alloc: Global, words: &[String]) -> Result<Report, Stop>
-    ensures usage { IsJudged (encode_limits words.now) words.now result }
+    ensures usage { AreWordsJudged (encode_limits words.now) words.now result }
     ensures amount { IfOk result (λ report. 0 < report.amount) }
+    ensures reports { IfOk result (λ report. Reports Counted.Bytes (code_amount words.now 4) report) }
 {
     let code = code_of(words)?;
     let len = number_at(words, 3, 1, MAX_LEN)? as usize;
@@ -59,8 +61,9 @@ fn encode_often(code: &Code, len: usize, source: &mut [u8], parity: &mut [u8], c
 
 /// `parity D P LEN SEED COUNT`: the parity of the bytes from a seed, which other programs can print too.
 pub fn run_parity(alloc: Global, words: &[String]) -> Result<Report, Stop>
-    ensures usage { IsJudged (parity_limits words.now) words.now result }
+    ensures usage { AreWordsJudged (parity_limits words.now) words.now result }
     ensures amount { IfOk result (λ report. 0 < report.amount) }
+    ensures reports { IfOk result (λ report. Reports Counted.Bytes (code_amount words.now 5) report) }
 {
     let code = code_of(words)?;
     let len = number_at(words, 3, 1, MAX_LEN)? as usize;
@@ -81,8 +84,9 @@ pub fn run_parity(alloc: Global, words: &[String]) -> Result<Report, Stop>
 
 /// `restore D P LEN LOST COUNT`.
 pub fn run_restore(alloc: Global, words: &[String]) -> Result<Report, Stop>
-    ensures usage { IsJudged (restore_limits words.now) words.now result }
+    ensures usage { AreWordsJudged (restore_limits words.now) words.now result }
     ensures amount { IfOk result (λ report. 0 < report.amount) }
+    ensures reports { IfOk result (λ report. Reports Counted.Bytes (code_amount words.now 5) report) }
 {
     let code = code_of(words)?;
     let len = number_at(words, 3, 1, MAX_LEN)? as usize;

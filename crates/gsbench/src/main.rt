@@ -7,15 +7,18 @@
 //! | `parity D P LEN SEED COUNT` | the same, on the bytes that a seed gives |
 //! | `restore D P LEN LOST COUNT` | writes the first LOST of the D data shards anew |
 //! | `messages BATCH COUNT` | brings a message of 16 bytes from one ENet peer to another in memory |
-//! | `receive Z P LEN EVERY COUNT` | takes the datagrams of a frame of LEN bytes at packet size Z and percentage P of parity, and hands it; each EVERY-th datagram is lost, none at 0 |
+//! | `receive Z P LEN EVERY COUNT` | takes the datagrams of a frame of LEN bytes, and hands it |
 //! | `take Z P LEN EVERY COUNT` | the same with a client's core, which gives the unit |
-//! | `new Z P WINDOW COUNT` | makes a client's core at packet size Z, percentage P and a window of WINDOW frames, which takes a datagram and is dropped |
-//! | `split Z P LEN COUNT` | splits a frame of LEN bytes at packet size Z and percentage P of parity, and writes each datagram |
-//! | `choose COUNT` | chooses a unit of a tick for a session, which has lost its last three frames each time that 30 were sent |
+//! | `new Z P WINDOW COUNT` | makes a client's core, which takes a datagram and is dropped |
+//! | `split Z P LEN COUNT` | splits a frame of LEN bytes, and writes each datagram |
+//! | `choose COUNT` | chooses a unit of a tick for a session, which loses three of 30 frames |
 //! | `tape N T COUNT` | reads the capture file of the T ticks that N generates, which is written to memory once |
 //! | `tape_held N T COUNT` | the same, and each tick is handed to eight holders |
 //! | `turns THREADS COUNT` | calls one cell in turns, on each of THREADS threads |
 //! | `views VIEWERS COUNT` | reads a tick of a capture of 1,000 ticks, on each of VIEWERS threads |
+//!
+//! Z is a packet size in bytes, P behind it the percentage of parity, and WINDOW a client's window in frames.
+//! Each EVERY-th datagram is lost, and none at 0. Of each 30 frames that `choose` sends the last three are lost.
 //!
 //! It prints one line: a checksum of what the last turn left (FNV-1a of 32 bits), and how many bytes of
 //! data were gone through, or how many calls were made where each is small. So the time that it takes is that

@@ -1,7 +1,8 @@
 // Messages between two peers of one connection, which are joined in memory.
 ghost use Rattle.std.specs.Prelude.{◌<◌, IfErr, IfOk};
+ghost use Rattle.gsbench.specs.Amounts.{Reports, messages_amount};
 ghost use Rattle.gsbench.specs.Report.{IsNoUsage};
-ghost use Rattle.gsbench.specs.Workloads.{IsJudged, messages_limits};
+ghost use Rattle.gsbench.specs.Workloads.{AreWordsJudged, messages_limits};
 
 use crate::report::{Counted, Report, Stop};
 use crate::sample::checksum;
@@ -24,8 +25,9 @@ const MOST_DATAGRAMS: u32 = 1000;
 
 /// `messages BATCH COUNT`: COUNT messages, of which BATCH are given before each writing.
 pub fn run(alloc: Global, words: &[String]) -> Result<Report, Stop>
-    ensures usage { IsJudged messages_limits words.now result }
+    ensures usage { AreWordsJudged messages_limits words.now result }
     ensures amount { IfOk result (λ report. 0 < report.amount) }
+    ensures reports { IfOk result (λ report. Reports Counted.Bytes (messages_amount words.now) report) }
 {
     let batch = number_at(words, 1, 1, MOST_BATCH)?;
     let count = number_at(words, 2, 1, u32::MAX)?;

@@ -4,9 +4,10 @@ ghost use Rattle.gs_rtp.specs.Stream.{numbers_of};
 ghost use Rattle.gs_frames.specs.Client.{least_window, most_window};
 ghost use Rattle.gs_frames.specs.Handed.{Handed};
 ghost use Rattle.gs_client_core.specs.Given.{AreGiven};
+ghost use Rattle.gsbench.specs.Amounts.{Reports, new_amount};
 ghost use Rattle.gsbench.specs.Making.{first_unit, sum_of_new, with_window};
 ghost use Rattle.gsbench.specs.Report.{IsNoUsage};
-ghost use Rattle.gsbench.specs.Workloads.{IsJudged, new_limits};
+ghost use Rattle.gsbench.specs.Workloads.{AreWordsJudged, new_limits};
 
 use crate::frames::KIND_IDR;
 use crate::receive::datagrams_of;
@@ -26,8 +27,9 @@ const LEN: usize = 16;
 /// `new Z P WINDOW COUNT`: clients at packet size Z, percentage P and a window of WINDOW frames. Each takes the first
 /// datagram of an IDR frame, and is dropped before the next.
 pub fn run(alloc: Global, words: &[String]) -> Result<Report, Stop>
-    ensures usage { IsJudged new_limits words.now result }
+    ensures usage { AreWordsJudged new_limits words.now result }
     ensures amount { IfOk result (λ report. 0 < report.amount) }
+    ensures reports { IfOk result (λ report. Reports Counted.Calls (new_amount words.now) report) }
 {
     let settings = settings_of(words)?;
     let window = number_at(words, 3, 1, WINDOW_GREATEST as u32)?;
@@ -66,7 +68,8 @@ fn make_often(
     requires window { (least_window ≤ window) × (window ≤ most_window) }
     requires count { 1 ≤ count }
     ensures made { IfOk result (λ clients. clients.made ≡ count) }
-    ensures sum { IfOk result (λ clients. clients.sum ≡ sum_of_new (with_window (numbers_of settings.now) window) datagram.now) }
+    ensures sum { IfOk result (λ clients. clients.sum
+        ≡ sum_of_new (with_window (numbers_of settings.now) window) datagram.now) }
     ensures no_usage { IfErr result (λ stop. IsNoUsage stop) }
 {
     let mut made = 0;

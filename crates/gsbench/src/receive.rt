@@ -3,13 +3,14 @@ ghost use Rattle.std.specs.Prelude.{◌≡◌, ◌<◌, ◌≤◌, ◌^◌, ◌�
 ghost use Rattle.gs_rtp.specs.Limits.{most_packet};
 ghost use Rattle.gs_frames.specs.Client.{ClientSettings, Arrival, Datagram};
 ghost use Rattle.gs_frames.specs.Datagrams.{OutgoingFrame, frame_datagrams};
-ghost use Rattle.gs_fecqueue.specs.Standing.{StandsFor};
+ghost use Rattle.gs_fecqueue.specs.Standing.{IsQueueOf};
 ghost use Rattle.gs_split.specs.Splitting.{IsLoaded};
+ghost use Rattle.gsbench.specs.Amounts.{Reports, receive_amount};
 ghost use Rattle.gsbench.specs.Report.{IsNoUsage};
-ghost use Rattle.gsbench.specs.Sending.{arrivals_of, is_lost, numbered};
-ghost use Rattle.gsbench.specs.Workloads.{IsJudged, receive_limits};
+ghost use Rattle.gsbench.specs.Sending.{arrivals_of, is_dropped, numbered_bytes};
+ghost use Rattle.gsbench.specs.Workloads.{AreWordsJudged, receive_limits};
 
-use crate::frames::{KIND_IDR, ROOM};
+use crate::frames::KIND_IDR;
 use crate::report::{Counted, Report, Stop};
 use crate::sample::{SEED, checksum, made};
 use crate::settings::settings_of;
@@ -19,7 +20,7 @@ use gs_bytes::MOST_UNIT;
 use gs_depack::{Depack, read_image};
 use gs_fecqueue::{Outcome, Queue};
 use gs_frames::Added;
-use gs_rtp::{FRAME_GREATEST, VIDEO_HEADER_LENGTH};
+use gs_rtp::{DATAGRAM_GREATEST, FRAME_GREATEST, VIDEO_HEADER_LENGTH};
 use gs_split::Splitter;
 use std::alloc::Global;
 
@@ -32,8 +33,9 @@ const FRAME: usize = 20;
 /// `receive Z P LEN EVERY COUNT`: IDR frames whose unit has LEN bytes, at packet size Z and percentage P. Each EVERY-th
 /// datagram is lost, none at 0.
 pub fn run(alloc: Global, words: &[String]) -> Result<Report, Stop>
-    ensures usage { IsJudged receive_limits words.now result }
+    ensures usage { AreWordsJudged receive_limits words.now result }
     ensures amount { IfOk result (λ report. 0 < report.amount) }
+    ensures reports { IfOk result (λ report. Reports Counted.Bytes (receive_amount words.now) report) }
 {
     let settings = settings_of(words)?;
     let len = number_at(words, 3, 1, MOST_UNIT)?;
@@ -71,7 +73,7 @@ pub fn datagrams_of(
         → map (λ datagram. datagram.items) all.items ≡ frame_datagrams splitter.old.settings sent) }
 {
     let mut all = Vec::new(alloc);
-    let mut out = [0; ROOM];
+    let mut out = [0; DATAGRAM_GREATEST];
     'datagrams: for k in 0..number {
         let length = splitter.datagram(k, unit, &mut out);
         let datagram = out[..length].to_vec(alloc)?;
@@ -90,8 +92,8 @@ fn receive_often(
 ) -> u32
     requires count { count ≤ 1048576 }
     requires few { length datagrams.old < 2 ^ 32 }
-    ensures { (c : ClientSettings) (came : List Arrival) → StandsFor queue.old c came
-        → StandsFor queue.new c (arrivals_of every count (map (λ datagram. datagram.items) datagrams.old) ++ came) }
+    ensures { (c : ClientSettings) (came : List Arrival) → IsQueueOf queue.old c came
+        → IsQueueOf queue.new c (arrivals_of every count (map (λ datagram. datagram.items) datagrams.old) ++ came) }
 {
     let mut depack = Depack::new(1);
     let mut sent = 0_u64;
@@ -110,14 +112,14 @@ fn receive_often(
 
 /// Whether a datagram is lost, by its number from 1.
 pub fn is_lost(every: u32, number: u64) -> bool
-    ensures { result ≡ is_lost every number }
+    ensures { result ≡ is_dropped every number }
 {
     every != 0 && number % u64::from(every) == 0
 }
 
 /// Writes the number of the frame into its datagram, where that has a whole header.
 pub fn set_frame(datagram: &mut [u8], frame: u32)
-    ensures { datagram.new ≡ numbered frame datagram.old }
+    ensures { datagram.new ≡ numbered_bytes frame datagram.old }
 {
     if datagram.len() >= VIDEO_HEADER_LENGTH {
         LittleEndian::write_u32(&mut datagram[FRAME..], frame);
@@ -132,8 +134,8 @@ fn receive(
     payload: u16,
     frame: u32,
 ) -> Option<u32>
-    ensures { (c : ClientSettings) (came : List Arrival) → StandsFor queue.old c came
-        → StandsFor queue.new c (Datagram datagram.now ∷ came) }
+    ensures { (c : ClientSettings) (came : List Arrival) → IsQueueOf queue.old c came
+        → IsQueueOf queue.new c (Datagram datagram.now ∷ came) }
 {
     let Outcome { moved, what } = queue.add(datagram);
     if let Some(moved) = moved {

@@ -1,6 +1,7 @@
 // The row operation of the field.
 ghost use Rattle.std.specs.Prelude.{◌≡◌, ◌<◌, length, IfOk};
-ghost use Rattle.gsbench.specs.Workloads.{IsJudged, mul_add_limits};
+ghost use Rattle.gsbench.specs.Amounts.{Reports, mul_add_amount};
+ghost use Rattle.gsbench.specs.Workloads.{AreWordsJudged, mul_add_limits};
 
 use crate::report::{Counted, Report, Stop};
 use crate::sample::{SEED, checksum, made};
@@ -12,8 +13,9 @@ const MAX_LEN: u32 = 1 << 20;
 
 /// `mul_add LEN COUNT`.
 pub fn run(alloc: Global, words: &[String]) -> Result<Report, Stop>
-    ensures usage { IsJudged mul_add_limits words.now result }
+    ensures usage { AreWordsJudged mul_add_limits words.now result }
     ensures amount { IfOk result (λ report. 0 < report.amount) }
+    ensures reports { IfOk result (λ report. Reports Counted.Bytes (mul_add_amount words.now) report) }
 {
     let len = number_at(words, 1, 1, MAX_LEN)?;
     let count = number_at(words, 2, 1, u32::MAX)?;

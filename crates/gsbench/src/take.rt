@@ -1,9 +1,10 @@
 // Frames taken by a client's core, which gives their units.
 ghost use Rattle.std.specs.Prelude.{◌<◌, ◌≤◌, ◌^◌, ◌∷◌, ◌++◌, ℕ, List, length, map, IfOk};
 ghost use Rattle.gs_frames.specs.Client.{ClientSettings, Arrival, Datagram};
-ghost use Rattle.gs_client_core.specs.Standing.{StandsFor};
+ghost use Rattle.gs_client_core.specs.Standing.{IsClientOf};
+ghost use Rattle.gsbench.specs.Amounts.{Reports, receive_amount};
 ghost use Rattle.gsbench.specs.Sending.{arrivals_of};
-ghost use Rattle.gsbench.specs.Workloads.{IsJudged, take_limits};
+ghost use Rattle.gsbench.specs.Workloads.{AreWordsJudged, take_limits};
 
 use crate::frames::KIND_IDR;
 use crate::receive::{datagrams_of, is_lost, set_frame};
@@ -20,8 +21,9 @@ use std::alloc::Global;
 /// `take Z P LEN EVERY COUNT`: IDR frames whose unit has LEN bytes, at packet size Z and percentage P. Each EVERY-th
 /// datagram is lost, none at 0.
 pub fn run(alloc: Global, words: &[String]) -> Result<Report, Stop>
-    ensures usage { IsJudged take_limits words.now result }
+    ensures usage { AreWordsJudged take_limits words.now result }
     ensures amount { IfOk result (λ report. 0 < report.amount) }
+    ensures reports { IfOk result (λ report. Reports Counted.Bytes (receive_amount words.now) report) }
 {
     let settings = settings_of(words)?;
     let len = number_at(words, 3, 1, MOST_UNIT)?;
@@ -41,13 +43,13 @@ pub fn run(alloc: Global, words: &[String]) -> Result<Report, Stop>
     })
 }
 
-// Sends the frame under so many numbers, each EVERY-th datagram of which is lost. Answers the checksum of the unit that the last one gives, of no bytes where it
-// gives none.
+// Sends the frame under so many numbers, each EVERY-th datagram of which is lost. Answers the checksum of the unit that
+// the last one gives, of no bytes where it gives none.
 fn take_often(client: &mut Client, datagrams: &mut [Vec<u8>], every: u32, count: u32) -> u32
     requires count { count ≤ 1048576 }
     requires few { length datagrams.old < 2 ^ 32 }
-    ensures { (c : ClientSettings) (came : List Arrival) (sound : List (List ℕ)) → StandsFor client.old c came sound
-        → StandsFor client.new c (arrivals_of every count (map (λ datagram. datagram.items) datagrams.old) ++ came)
+    ensures { (c : ClientSettings) (came : List Arrival) (sound : List (List ℕ)) → IsClientOf client.old c came sound
+        → IsClientOf client.new c (arrivals_of every count (map (λ datagram. datagram.items) datagrams.old) ++ came)
         sound }
 {
     let mut sent = 0_u64;
@@ -66,8 +68,8 @@ fn take_often(client: &mut Client, datagrams: &mut [Vec<u8>], every: u32, count:
 
 // Takes a datagram, and answers the checksum of the unit that is given with it, where that is wanted.
 fn take(client: &mut Client, datagram: &[u8], wanted: bool) -> Option<u32>
-    ensures { (c : ClientSettings) (came : List Arrival) (sound : List (List ℕ)) → StandsFor client.old c came sound
-        → StandsFor client.new c (Datagram datagram.now ∷ came) sound }
+    ensures { (c : ClientSettings) (came : List Arrival) (sound : List (List ℕ)) → IsClientOf client.old c came sound
+        → IsClientOf client.new c (Datagram datagram.now ∷ came) sound }
 {
     let [unit, ..] = client.take(datagram).units;
     let bytes = unit?.bytes;

@@ -6,10 +6,11 @@ ghost use Rattle.gs_tape.specs.Generated.{generated};
 ghost use Rattle.gs_tape.specs.Limits.{most_bytes, most_generated};
 ghost use Rattle.gs_tape.specs.Reading.{ticks_of};
 ghost use Rattle.gs_tape.specs.Tick.{unit_bytes};
+ghost use Rattle.gsbench.specs.Amounts.{Reports, tape_amount};
 ghost use Rattle.gsbench.specs.Checksum.{fnv_1a};
 ghost use Rattle.gsbench.specs.Report.{IsNoUsage};
 ghost use Rattle.gsbench.specs.Ticks.{last_unit};
-ghost use Rattle.gsbench.specs.Workloads.{IsJudged, tape_limits};
+ghost use Rattle.gsbench.specs.Workloads.{AreWordsJudged, tape_limits};
 
 use crate::report::{Counted, Report, Stop};
 use crate::sample::checksum;
@@ -28,24 +29,27 @@ const HOLDERS: usize = 8;
 
 /// `tape N T COUNT`: the ticks are read, and dropped.
 pub fn run(alloc: Global, words: &[String]) -> Result<Report, Stop>
-    ensures usage { IsJudged tape_limits words.now result }
+    ensures usage { AreWordsJudged tape_limits words.now result }
     ensures amount { IfOk result (λ report. 0 < report.amount) }
+    ensures reports { IfOk result (λ report. Reports Counted.Bytes (tape_amount words.now) report) }
 {
     run_with(alloc, words, 0)
 }
 
 /// `tape_held N T COUNT`: each tick is handed to eight holders.
 pub fn run_held(alloc: Global, words: &[String]) -> Result<Report, Stop>
-    ensures usage { IsJudged tape_limits words.now result }
+    ensures usage { AreWordsJudged tape_limits words.now result }
     ensures amount { IfOk result (λ report. 0 < report.amount) }
+    ensures reports { IfOk result (λ report. Reports Counted.Bytes (tape_amount words.now) report) }
 {
     run_with(alloc, words, HOLDERS)
 }
 
 // The same, where each tick is handed to so many.
 fn run_with(alloc: Global, words: &[String], holders: usize) -> Result<Report, Stop>
-    ensures usage { IsJudged tape_limits words.now result }
+    ensures usage { AreWordsJudged tape_limits words.now result }
     ensures amount { IfOk result (λ report. 0 < report.amount) }
+    ensures reports { IfOk result (λ report. Reports Counted.Bytes (tape_amount words.now) report) }
 {
     let number = number_at(words, 1, 0, u32::MAX)?;
     let ticks = number_at(words, 2, 1, MOST_GENERATED)?;
@@ -87,6 +91,7 @@ fn read_often(
     requires ticks { (1 ≤ ticks) × (ticks ≤ most_generated) }
     requires count { 1 ≤ count }
     ensures amount { IfOk result (λ report. report.amount ≡ count * sum_by unit_bytes (generated number ticks)) }
+    ensures counted { IfOk result (λ report. report.counted ≡ Counted.Bytes) }
     ensures some { IfOk result (λ report. 0 < report.amount) }
     ensures checksum { IfOk result (λ report. report.checksum ≡ fnv_1a (last_unit (generated number ticks))) }
     ensures no_usage { IfErr result (λ stop. IsNoUsage stop) }

@@ -2,9 +2,10 @@
 ghost use Rattle.std.specs.Prelude.{◌≡◌, ◌*◌, ◌<◌, ◌≤◌, ℕ, [], ◌∷◌, length, IfErr, IfOk};
 ghost use Rattle.std.specs.Thread.{IsSync};
 ghost use Rattle.gs_turn.specs.Cells.{AreNewPasses, IsPassOf, own};
+ghost use Rattle.gsbench.specs.Amounts.{Reports, threads_amount};
 ghost use Rattle.gsbench.specs.Calling.{HasCalled, HaveCalled};
 ghost use Rattle.gsbench.specs.Report.{IsNoUsage};
-ghost use Rattle.gsbench.specs.Workloads.{IsJudged, turns_limits};
+ghost use Rattle.gsbench.specs.Workloads.{AreWordsJudged, turns_limits};
 
 use crate::report::{Counted, Report, Stop};
 use crate::sample::checksum;
@@ -44,8 +45,9 @@ pub fn run<R: Threads + Wait + Sync>(
     alloc: Global,
     words: &[String],
 ) -> Result<Report, Stop>
-    ensures usage { IsJudged turns_limits words.now result }
+    ensures usage { AreWordsJudged turns_limits words.now result }
     ensures amount { IfOk result (λ report. 0 < report.amount) }
+    ensures reports { IfOk result (λ report. Reports Counted.Calls (threads_amount words.now) report) }
 {
     let threads = number_at(words, 1, 1, MOST_THREADS)?;
     let count = number_at(words, 2, 1, u32::MAX)?;
@@ -97,11 +99,13 @@ fn call_by_all<R: Threads + Wait + Sync>(
         rt,
         || -> Pass<Counter>
             requires { IsSync R.row × (0 < length passes.items) × AreNewPasses turn.now 0 passes.items }
-            ensures { IsPassOf turn.entry.now result × HaveCalled 0 count (own result) × (length (own result) ≡ length passes.items) }
+            ensures { IsPassOf turn.entry.now result × HaveCalled 0 count (own result)
+                × (length (own result) ≡ length passes.items) }
         { call_by_all(rt, turn, passes, count) },
         || -> Pass<Counter>
             requires { IsPassOf turn.now last }
-            ensures { IsPassOf turn.entry.now result × ((number : ℕ) → own last ≡ (number, []) ∷ [] → HasCalled number count (own result)) }
+            ensures { IsPassOf turn.entry.now result
+                × ((number : ℕ) → own last ≡ (number, []) ∷ [] → HasCalled number count (own result)) }
         { call_often(rt, turn, last, count) },
     );
     turn.join(&mut keep, give);

@@ -2,20 +2,19 @@
 ghost use Rattle.std.specs.Prelude.{◌≡◌, ◌+◌, ◌-◌, ◌%◌, ◌<◌, ◌≤◌, [], length, false, IfErr, IfOk, OnOk};
 ghost use Rattle.std.specs.Arc.{arc_value};
 ghost use Rattle.std.specs.Thread.{IsSync};
+ghost use Rattle.gs_capture.specs.Limits.{most_viewers};
+ghost use Rattle.gsbench.specs.Amounts.{Reports, threads_amount};
 ghost use Rattle.gsbench.specs.Report.{IsNoUsage};
-ghost use Rattle.gsbench.specs.Workloads.{IsJudged, views_limits};
+ghost use Rattle.gsbench.specs.Workloads.{AreWordsJudged, views_limits};
 
 use crate::report::{Counted, Report, Stop};
 use crate::sample::checksum;
 use crate::words::{expect_end, number_at};
-use gs_capture::{Recorder, Viewer, capture};
+use gs_capture::{MOST_VIEWERS, Recorder, Viewer, capture};
 use gs_tape::{Deltas, Tick, Unit, Units};
 use std::alloc::Global;
 use std::sync::{Arc, Wait};
 use std::thread::{Threads, join};
-
-// The most viewers of one capture.
-const MOST_VIEWERS: u32 = 16;
 
 // How many ticks are appended.
 const TICKS: u32 = 1_000;
@@ -26,8 +25,9 @@ pub fn run<R: Threads + Wait + Sync>(
     alloc: Global,
     words: &[String],
 ) -> Result<Report, Stop>
-    ensures usage { IsJudged views_limits words.now result }
+    ensures usage { AreWordsJudged views_limits words.now result }
     ensures amount { IfOk result (λ report. 0 < report.amount) }
+    ensures reports { IfOk result (λ report. Reports Counted.Calls (threads_amount words.now) report) }
 {
     let viewers = number_at(words, 1, 1, MOST_VIEWERS)?;
     let count = number_at(words, 2, 1, u32::MAX)?;
@@ -40,14 +40,15 @@ pub fn run<R: Threads + Wait + Sync>(
     })
 }
 
-// Appends all ticks, and then has so many viewers each read so often. Answers the number of the tick that was read last.
+// Appends all ticks, and then has so many viewers each read so often. Answers the number of the tick that was read
+// last.
 fn record_and_read<R: Threads + Wait + Sync>(
     rt: &R,
     alloc: Global,
     viewers: u32,
     count: u32,
 ) -> Result<u32, Stop>
-    requires viewers { (1 ≤ viewers) × (viewers ≤ 16) }
+    requires viewers { (1 ≤ viewers) × (viewers ≤ most_viewers) }
     requires count { 1 ≤ count }
     ensures last { IfOk result (λ number. number ≡ (count - 1) % 1000 + 1) }
     ensures no_usage { IfErr result (λ stop. IsNoUsage stop) }

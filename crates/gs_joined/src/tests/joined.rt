@@ -17,8 +17,8 @@ use gs_sides::ControlSide;
 use std::alloc::Global;
 use std::test::Fail;
 
-/// What is done next: the host sends a tick, a video datagram of a number comes, a control datagram of the client comes, or
-/// the client's decoder is reset.
+/// What is done next: the host sends a tick, a video datagram of a number comes, a control datagram of the client
+/// comes, or the client's decoder is reset.
 #[derive(Clone, Copy)]
 pub enum Deed {
     Turn,

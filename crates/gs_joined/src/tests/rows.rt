@@ -121,8 +121,8 @@ fn frames_wait_and_a_reset_bars_them(rt: HostRuntime) -> Result<(), Fail> {
     Ok(())
 }
 
-/// Eight frames of three datagrams, of which each call of the video link puts one, and this call fails. Behind each turn
-/// the datagrams come, and what is asked for goes to the host.
+/// Eight frames of three datagrams, of which each call of the video link puts one, and this call fails. Behind each
+/// turn the datagrams come, and what is asked for goes to the host.
 fn failing(alloc: Global, call: u64) -> Result<Joined, Fail> {
     let mut joined = Joined::open(alloc, &settings(20, 2)?, 1, &[call])?;
     let mut came = 0;
@@ -143,8 +143,8 @@ fn failing(alloc: Global, call: u64) -> Result<Joined, Fail> {
     Ok(joined)
 }
 
-/// How many frames are handed where that call of the link fails: a frame of which no datagram was put is lost, and so is
-/// the one that refers to it.
+/// How many frames are handed where that call of the link fails: a frame of which no datagram was put is lost, and so
+/// is the one that refers to it.
 fn handed_without(call: u64) -> usize {
     match call {
         22 => 7,

@@ -1,6 +1,7 @@
 // Entries join a history.
 
-ghost use Rattle.std.specs.Prelude.{◌≡◌, ◌+◌, ◌≤◌, ◌<◌, ℕ, List, [], ◌∷◌, ◌++◌, Option, IsSome, is_some, not, ◌&&◌, ◌==◌, vec_len, vec_capacity};
+ghost use Rattle.std.specs.Prelude.{◌≡◌, ◌+◌, ◌≤◌, ◌<◌, ℕ, List, [], ◌∷◌, ◌++◌, Option, IsSome, is_some, not, ◌&&◌};
+ghost use Rattle.std.specs.Prelude.{◌==◌, vec_len, vec_capacity};
 ghost use Rattle.gs_refs.specs.Answers.{sent_entry};
 ghost use Rattle.gs_refs.specs.History.{frames, last_tick};
 ghost use Rattle.gs_refs.specs.Standing.{KeepsCandidates};

@@ -3,8 +3,9 @@
 ghost use Rattle.std.specs.Prelude.{◌≡◌, ℕ, ◌||◌, List, [], true, IfOk};
 ghost use Rattle.std.specs.List.{AllByRecursion};
 ghost use Rattle.gs_turn.specs.History.{Front, HasOwn, has_number, with_call};
-ghost use Rattle.gs_session.specs.Replies.{is_chosen, is_taken, is_asked};
-ghost use Rattle.gs_session.specs.Sessions.{SessionCall, opening_of, front, own, made_by, IsPassOf, IsNewPass, HasPlace, LeavesRefs, IsHistory, EndsWith};
+ghost use Rattle.gs_session.specs.Replies.{is_choice, is_invalidation, is_idr_request};
+ghost use Rattle.gs_session.specs.Sessions.{SessionCall, opening_of, front, own, made_by, IsPassOf, IsNewPass};
+ghost use Rattle.gs_session.specs.Sessions.{HasPlace, LeavesRefs, IsHistory, EndsWith};
 ghost use Rattle.gs_session.specs.declared.call.Call.TheVariants as call;
 ghost use Rattle.gs_session.specs.declared.call.Reply.TheVariants as reply_is;
 
@@ -21,7 +22,7 @@ use std::alloc::Global;
 use std::sync::{Arc, Wait};
 
 fn chosen(reply: Reply) -> Result<Sent, ChooseError>
-    requires { is_chosen reply ≡ true }
+    requires { is_choice reply ≡ true }
     ensures { reply ≡ reply_is.Chosen result }
 {
     match reply {
@@ -31,7 +32,7 @@ fn chosen(reply: Reply) -> Result<Sent, ChooseError>
 }
 
 fn taken(reply: Reply) -> Result<(), InvalidError>
-    requires { is_taken reply ≡ true }
+    requires { is_invalidation reply ≡ true }
     ensures { reply ≡ reply_is.Taken result }
 {
     match reply {
@@ -41,7 +42,7 @@ fn taken(reply: Reply) -> Result<(), InvalidError>
 }
 
 fn asked(reply: Reply) -> Result<(), EndedError>
-    requires { is_asked reply ≡ true }
+    requires { is_idr_request reply ≡ true }
     ensures { reply ≡ reply_is.Asked result }
 {
     match reply {
@@ -89,7 +90,8 @@ impl Session {
         ensures ends { EndsWith self.now pass.old pass.new (call.Choose tick) (reply_is.Chosen result) }
 
         // The pass's own calls are there each once and in order, and this one is the last of them.
-        ensures own { own pass.new ≡ with_call (made_by pass.old (call.Choose tick) (reply_is.Chosen result)) (own pass.old) }
+        ensures own { own pass.new ≡ with_call (made_by pass.old (call.Choose tick) (reply_is.Chosen result))
+            (own pass.old) }
         ensures once { HasOwn (own pass.new) (front pass.new) }
         ensures numbers { (number : ℕ) → has_number number (own pass.new) ≡ has_number number (own pass.old) }
     {
@@ -108,7 +110,8 @@ impl Session {
         ensures session { IsPassOf self.now pass.new }
         ensures history { IsHistory self.now (front pass.new) }
         ensures ends { EndsWith self.now pass.old pass.new (call.Invalidate first last) (reply_is.Taken result) }
-        ensures own { own pass.new ≡ with_call (made_by pass.old (call.Invalidate first last) (reply_is.Taken result)) (own pass.old) }
+        ensures own { own pass.new ≡ with_call (made_by pass.old (call.Invalidate first last) (reply_is.Taken result))
+            (own pass.old) }
         ensures once { HasOwn (own pass.new) (front pass.new) }
         ensures numbers { (number : ℕ) → has_number number (own pass.new) ≡ has_number number (own pass.old) }
     {
@@ -136,8 +139,10 @@ impl Session {
     pub fn close(self, first: SessionPass, second: SessionPass) -> Refs
         requires first { HasPlace self 0 first }
         requires second { HasPlace self 1 second }
-        ensures { (h : List SessionCall) × LeavesRefs self h result × Front (front first) (own first) h × Front (front second) (own second) h
-            × AllByRecursion (λ (e : SessionCall). (has_number e.number (own first) || has_number e.number (own second)) ≡ true) h }
+        ensures { (h : List SessionCall) × LeavesRefs self h result × Front (front first) (own first) h
+            × Front (front second) (own second) h
+            × AllByRecursion (λ (e : SessionCall).
+            (has_number e.number (own first) || has_number e.number (own second)) ≡ true) h }
     {
         let Session { turn } = self;
         let SessionPass { pass: mut keep } = first;

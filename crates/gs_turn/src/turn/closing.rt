@@ -12,12 +12,14 @@ use crate::plays::{Both, Settle};
 use crate::turned::Turned;
 
 impl<S: Turned> Turn<S> {
-    /// Makes one pass of two. It has the numbers and calls of both, and the longer of their fronts, which begins with the other.
+    /// Makes one pass of two. It has the numbers and calls of both, and the longer of their fronts, which begins with
+    /// the other.
     pub fn join(&self, keep: &mut Pass<S>, give: Pass<S>)
         requires cell { IsPassOf self.now keep.old × IsPassOf self.now give }
         ensures cell { IsPassOf self.now keep.new }
         ensures own { own keep.new ≡ own keep.old ++ own give }
-        ensures numbers { (number : ℕ) → has_number number (own keep.new) ≡ (has_number number (own keep.old) || has_number number (own give)) }
+        ensures numbers { (number : ℕ) → has_number number (own keep.new) ≡ (has_number number (own keep.old)
+            || has_number number (own give)) }
         ensures begins { IsPrefix (front keep.old) (front keep.new) × IsPrefix (front give) (front keep.new) }
         ensures longer { (front keep.new ≡ front keep.old) ⊎ (front keep.new ≡ front give) }
     {
@@ -26,13 +28,15 @@ impl<S: Turned> Turn<S> {
         self.table.shared.load::<Settle>(&mut keep.seat, DRAWN);
     }
 
-    /// Ends the cell and answers its state, which one history leaves from the opening state. The pass has all numbers of the
-    /// cell. The history begins with its front, has under each number just the calls that the pass has, each once and in
-    /// order, and holds no other call.
+    /// Ends the cell and answers its state, which one history leaves from the opening state. The pass has all numbers
+    /// of the cell. The history begins with its front, has under each number just the calls that the pass has, each
+    /// once and in order, and holds no other call.
     pub fn close(self, pass: Pass<S>) -> S
         requires cell { IsPassOf self pass }
         requires all { HasAllNumbers self pass }
-        ensures { (h : List (TurnCall S.Call S.Reply)) × Leaves S.steps (opening_of self) h result × Front (front pass) (own pass) h × AllByRecursion (λ (e : TurnCall S.Call S.Reply). has_number e.number (own pass) ≡ true) h }
+        ensures { (h : List (TurnCall S.Call S.Reply)) × Leaves S.steps (opening_of self) h result
+            × Front (front pass) (own pass) h
+            × AllByRecursion (λ (e : TurnCall S.Call S.Reply). has_number e.number (own pass) ≡ true) h }
     {
         let Turn { table } = self;
         let Pass { seat } = pass;

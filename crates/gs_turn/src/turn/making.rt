@@ -27,7 +27,8 @@ impl<S: Turned + Drop> Turn<S> {
     // The cell with its first pass, which brings the state in.
     fn open(alloc: Global, opening: Opening<S>) -> Result<(Turn<S>, Pass<S>), OutOfMemory>
         requires { (1 ≤ opening.passes) × (opening.passes < 2 ^ 32) }
-        ensures { IfOk result (λ made. (opening_of made.0 ≡ opening.state) × (passes_of made.0 ≡ opening.passes) × IsNewPass made.0 0 made.1 × (made_by made.1 ≡ 1)) }
+        ensures { IfOk result (λ made. (opening_of made.0 ≡ opening.state) × (passes_of made.0 ≡ opening.passes)
+            × IsNewPass made.0 0 made.1 × (made_by made.1 ≡ 1)) }
     {
         let (table, mut seat) = Table::vacant(alloc, &[1, 0, 0], 1, &opening)?;
         let turn = Turn { table };

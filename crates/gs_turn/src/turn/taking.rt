@@ -18,14 +18,16 @@ use std::marker::Brand;
 use std::sync::Wait;
 
 impl<S: Turned> Turn<S> {
-    /// Makes a call in the pass's turn, for which it may wait. It answers what the state answers at that point of one history.
-    /// The history begins with the pass's front and has the pass's own calls, each once and those of each number in order.
-    /// Afterwards the front ends with this call, which counts for the pass's least number.
+    /// Makes a call in the pass's turn, for which it may wait. It answers what the state answers at that point of one
+    /// history. The history begins with the pass's front and has the pass's own calls, each once and those of each
+    /// number in order. Afterwards the front ends with this call, which counts for the pass's least number.
     pub fn call<Rt: Wait>(&self, rt: &Rt, pass: &mut Pass<S>, call: S::Call) -> S::Reply
         requires cell { IsPassOf self.now pass.old }
         ensures cell { IsPassOf self.now pass.new }
         ensures history { TurnHistory S.steps (opening_of self.now) (front pass.new) }
-        ensures ends { (between : List (TurnCall S.Call S.Reply)) × (front pass.new ≡ (front pass.old ++ between) ++ turn_call (least_number (own pass.old)) call result ∷ []) }
+        ensures ends { (between : List (TurnCall S.Call S.Reply))
+            × (front pass.new ≡ (front pass.old ++ between)
+            ++ turn_call (least_number (own pass.old)) call result ∷ []) }
         ensures own { own pass.new ≡ with_call (turn_call (least_number (own pass.old)) call result) (own pass.old) }
         ensures numbers { (number : ℕ) → has_number number (own pass.new) ≡ has_number number (own pass.old) }
         ensures once { HasOwn (own pass.new) (front pass.new) }
@@ -63,7 +65,8 @@ impl<S: Turned> Turn<S> {
         requires seat { IsSeatOf self.now seat.old }
         requires turn { HasState S.steps self.now seat.old }
         requires call { J.call ≡ call ∷ [] }
-        ensures called { Became seat.old seat.new (record (after_call call result seat.old.me.0) { standing = Outside }) [] }
+        ensures called { Became seat.old seat.new
+            (record (after_call call result seat.old.me.0) { standing = Outside }) [] }
         ensures history { TurnHistory S.steps (opening_of self.now) seat.new.me.0.front }
         ensures once { HasOwn seat.new.me.0.own seat.new.me.0.front }
     {

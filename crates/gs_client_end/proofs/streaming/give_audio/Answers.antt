@@ -3,7 +3,7 @@ use Rattle.std.proofs.lemmas.Result.{IfOk-weaker}
 use Rattle.gs_audio.specs.Played.{PlayedUnit}
 use Rattle.gs_audio.specs.Units.{played_units}
 use Rattle.gs_frames.specs.Client.{ClientSettings, Arrival}
-use Rattle.gs_client_core.specs.Standing.{StandsFor as IsClientOf}
+use Rattle.gs_client_core.specs.Standing.{IsClientOf}
 use Rattle.gs_run.specs.Report.{play_report}
 use Rattle.gs_client_end.specs.Steps.{Reported, Plays}
 use Rattle.gs_client_end.proofs.streaming.give_audio.Goals as goal

@@ -3,7 +3,7 @@ use Rattle.std.specs.List.{All}
 use Rattle.std.proofs.lemmas.List.{get_or_default}
 use Rattle.gs_gf256.specs.Field.{IsByte}
 use Rattle.gs_frames.specs.Shards.{payload_of}
-use Rattle.gs_fecqueue.specs.Places.{total_of, HasPlaced}
+use Rattle.gs_fecqueue.specs.Places.{shard_total, HasPlaced}
 use Rattle.gs_fecqueue.proofs.Restored.{coded-joined, bare-joined}
 use Rattle.gs_fecqueue.proofs.block.restore.Goals as goal
 
@@ -13,11 +13,11 @@ returns-in_default c = λ s held first size are has placed shards full.
     let d = first.head.shards in
     let bytes : All IsByte xs = λ k d' h. omega (arith, c.type_inv.bytes k, get_or_default xs k d' 0 h) in
     let bad = c.video.ensures.bad_counts.0 (search rules) in
-    let none : (d ≡ 0) ⊎ (255 < total_of first.head) = elim bad [
+    let none : (d ≡ 0) ⊎ (255 < shard_total first.head) = elim bad [
       | inl zero_is ↦ inl (sym shards ∙ zero_is)
       | inr many ↦ inr (omega (arith, has.count))
     ] in
-    let room : total_of first.head * payload_of s ≤ length xs =
+    let room : shard_total first.head * payload_of s ≤ length xs =
     omega (arith, ap (λ (n : ℕ). n * payload_of s) has.count, ap (λ (n : ℕ). length c.args.present.now * n) size) in
     let Placed : ℕ → Type 0 = λ n. HasPlaced n xs held in
     let at : ℕ → ℕ → List ℕ = λ m n. take (m * n) xs in

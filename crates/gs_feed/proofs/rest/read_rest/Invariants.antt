@@ -2,16 +2,18 @@ use Rattle.std.proofs.Common.{◌≡◌, ◌≢◌, ◌+◌, ◌-◌}
 use Rattle.std.specs.Io.KnownBytes.{Keeps}
 use Rattle.gs_bytes.specs.Outside.{KeepsFlag}
 use Rattle.gs_tape.specs.Limits.{most_ticks}
-use Rattle.gs_tape.specs.Tape.{unread}
+use Rattle.gs_tape.specs.Tape.{unread_tape}
 use Rattle.gs_tape.specs.declared.stage.Stage.TheVariants.{Open}
 use Rattle.gs_feed.proofs.Passing.{Passes}
+use Rattle.gs_feed.proofs.Cuts.{Rests}
 use Rattle.gs_feed.proofs.rest.read_rest.Given as goal
 
 abbrev pub invariant-ticks : goal.invariant-ticks
 invariant-ticks g l =
     let told = g.S.Outside in
     record {
-      passes : Passes (unread l.initial.tape (told.left l.initial.source)) (unread l.tape (told.left l.source));
+      passes : Passes (unread_tape l.initial.tape (told.left l.initial.source)) (unread_tape l.tape (told.left l.source));
+      rests : Rests l.initial.tape l.tape (told.left l.initial.source) (told.left l.source);
       stays_open : l.initial.tape.stage ≡ Open → l.tape.stage ≡ Open;
       again : l.initial.tape.stage ≢ Open → (l.tape ≡ l.initial.tape) × (l.source ≡ l.initial.source);
       audio : l.tape.audio ≡ l.initial.tape.audio;

@@ -1,7 +1,7 @@
 use Rattle.std.proofs.Common.{◌≡◌, take}
 use Rattle.gs_frames.specs.Datagrams.{OutgoingFrame, frame_datagrams}
 use Rattle.gs_split.specs.Splitting.{IsLoaded}
-use Rattle.gs_host_core.specs.Puts.{PutsAll, told}
+use Rattle.gs_host_core.specs.Puts.{PutsAll, link_told}
 use Rattle.gs_host_core.proofs.put.put_frame.Given as goal
 
 -- those before this one were put
@@ -11,7 +11,7 @@ invariant-datagrams g l =
     record {
       kept : l.splitter ≡ l.initial.splitter;
       put : (sent : OutgoingFrame) → IsLoaded l.initial.splitter sent → sent.unit ≡ l.unit
-          → PutsAll (told link l.initial.link) (told link l.link) l.to
+          → PutsAll (link_told link l.initial.link) (link_told link l.link) l.to
           (take l.k (frame_datagrams l.initial.splitter.settings sent));
       counted : link.faults l.link ≡ link.faults l.initial.link;
     }

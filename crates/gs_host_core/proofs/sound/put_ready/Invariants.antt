@@ -1,6 +1,6 @@
 use Rattle.std.proofs.Common.{◌≡◌, ℕ, List, take}
 use Rattle.gs_audio.specs.Sending.{HasPushed, last_datagrams}
-use Rattle.gs_host_core.specs.Puts.{PutsAll, told}
+use Rattle.gs_host_core.specs.Puts.{PutsAll, link_told}
 use Rattle.gs_host_core.proofs.sound.put_ready.Given as goal
 
 -- those before this one were put
@@ -9,7 +9,7 @@ invariant-ready g l =
     let link = g.L.Link in
     record {
       put : (units : List (List ℕ)) → HasPushed l.sender units
-          → PutsAll (told link l.initial.link) (told link l.link) l.to
+          → PutsAll (link_told link l.initial.link) (link_told link l.link) l.to
           (take l.k (last_datagrams l.sender.settings units));
       counted : link.faults l.link ≡ link.faults l.initial.link;
     }

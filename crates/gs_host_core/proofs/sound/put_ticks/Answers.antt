@@ -1,9 +1,9 @@
 use Rattle.std.proofs.Common.{◌≡◌, ◌<◌, ◌++◌, ◌∙◌, ap, length, take, arith}
 use Rattle.std.specs.List.{flat_map}
 use Rattle.gs_tape.specs.Tick.{Tick}
-use Rattle.gs_host_core.specs.Puts.{PutsFront, told}
+use Rattle.gs_host_core.specs.Puts.{PutsFront, link_told}
 use Rattle.gs_host_core.specs.Sounds.{sound_behind}
-use Rattle.gs_host_core.proofs.Lists.{when_err}
+use Rattle.gs_bytes.proofs.Cases.{on_err}
 use Rattle.gs_host_core.proofs.Sounds.{flat-few, flat-length, pushed-ticks, sizes-at, ticks-failed, ticks-put}
 use Rattle.gs_host_core.proofs.sound.put_ticks.Goals as goal
 
@@ -47,10 +47,10 @@ returns-in_err-put_units-clause-front g c = λ before pushed.
     let same : units ≡ c.tick-item.result.value.audio =
     c.as_slice.ensures ∙ ap (λ (t : Tick). t.audio) (c.behind-tick.view_is ∙ c.deref.ensures) in
     let h : i < length ticks = omega arith in
-    let a = told g.L.Link c.args.link.now in
-    let b = told g.L.Link c.ticks.link in
-    let d = told g.L.Link c.put_units.new.link in
-    when_err c.from_residual.result (PutsFront a d c.args.to (sound_behind s before (flat_map (λ t. t.value.audio) ticks)))
+    let a = link_told g.L.Link c.args.link.now in
+    let b = link_told g.L.Link c.ticks.link in
+    let d = link_told g.L.Link c.put_units.new.link in
+    on_err c.from_residual.result (PutsFront a d c.args.to (sound_behind s before (flat_map (λ t. t.value.audio) ticks)))
     (ticks-failed a b d c.args.to s c.ticks.sender.settings before ticks (λ t. t.value.audio) i c.tick-item.result units c.tick-item.is h same
     c.ticks.invariant.settings (c.ticks.invariant.put before pushed)
     (c.in_err-put_units.ensures.front (before ++ flat_map (λ t. t.value.audio) (take i ticks)) (c.ticks.invariant.pushed before pushed)))
@@ -64,9 +64,9 @@ ticks-preserved g c =
     let same : units ≡ c.tick-item.result.value.audio =
     c.as_slice.ensures ∙ ap (λ (t : Tick). t.audio) (c.behind-tick.view_is ∙ c.deref.ensures) in
     let h : i < length ticks = omega arith in
-    let a = told g.L.Link c.args.link.now in
-    let b = told g.L.Link c.ticks.link in
-    let d = told g.L.Link c.put_units.new.link in
+    let a = link_told g.L.Link c.args.link.now in
+    let b = link_told g.L.Link c.ticks.link in
+    let d = link_told g.L.Link c.put_units.new.link in
     record {
       settings = c.in_ok-put_units.ensures.settings ∙ c.ticks.invariant.settings;
       count = omega (

@@ -3,8 +3,9 @@ use Rattle.std.proofs.lemmas.Bool.{false≢true}
 use Rattle.gs_refs.specs.declared.entry.Entry.{Entry}
 use Rattle.gs_refs.specs.declared.entry.Entry.TheVariants.{Sent}
 use Rattle.gs_refs.specs.History.{frames}
+use Rattle.gs_refs.proofs.Walking.{reverse-more}
 use Rattle.gs_pair.specs.References.{ReferencesHeldSince}
-use Rattle.gs_pair.proofs.InOrder.{reverse-more, held-more, held-next, held-first}
+use Rattle.gs_pair.proofs.InOrder.{held-more, held-next, held-first}
 use Rattle.gs_pair.proofs.references.are_held_in_order.Goals as goal
 
 pub returns-then-not-is_entry_held : goal.returns-then-not-is_entry_held

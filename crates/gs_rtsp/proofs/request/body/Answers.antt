@@ -1,6 +1,6 @@
-use Rattle.std.proofs.Common.{◌≡◌, ◌≤◌, length, arith, Result, Ok, Err, ap, refl, ◌∙◌}
-use Rattle.std.specs.Prelude.{IfOk}
+use Rattle.std.proofs.Common.{◌≡◌, ◌≤◌, length, arith, ap, refl, ◌∙◌}
 use Rattle.std.proofs.lemmas.Bool.Decides.{nat_tests}
+use Rattle.std.proofs.lemmas.Result.{IfOk-weaker}
 use Rattle.gs_rtp.specs.declared.settings.Settings.{Settings}
 use Rattle.gs_rtp.specs.Stream.{numbers_of}
 use Rattle.gs_sdp.specs.Table.{body_text}
@@ -17,18 +17,14 @@ short s =
     let few : s.duration ≤ 10 = grind (arith, nat_tests, s.duration_known) in
     length_announcement (numbers_of s) (omega (arith, s.packet_greatest)) (omega (arith, s.fps_greatest)) (omega (arith, s.minimum_greatest)) (omega arith)
 
-if_ok : {T E : Type 0} (r : Result T E) (P Q : T → Type 0) → ((x : T) → P x → Q x) → IfOk r P → IfOk r Q
-if_ok (Ok x) P Q f h = f x h
-if_ok (Err e) P Q f h = tt
-
 pub returns-in-Announce-clause-body : goal.returns-in-Announce-clause-body
 returns-in-Announce-clause-body c =
     let s = c.args.settings.now in
-    rw c.in-Announce.is (if_ok c.body_of.result (λ text. text ≡ body_text s) (λ text. text ≡ announcement (numbers_of s)) (λ text e. e
+    rw c.in-Announce.is (IfOk-weaker c.body_of.result (λ text. text ≡ body_text s) (λ text. text ≡ announcement (numbers_of s)) (λ text e. e
     ∙ announced s) c.body_of.ensures)
 
 pub returns-in-Announce-clause-length : goal.returns-in-Announce-clause-length
 returns-in-Announce-clause-length c =
     let s = c.args.settings.now in
-    if_ok c.body_of.result (λ text. text
+    IfOk-weaker c.body_of.result (λ text. text
     ≡ body_text s) (λ text. length text ≤ 200) (λ text e. omega (arith, ap length e, ap length (announced s), short s)) c.body_of.ensures

@@ -1,6 +1,6 @@
 use Rattle.std.proofs.Common.{◌≡◌, ◌∙◌, ◌+◌, ◌-◌, ap, take, drop, arith}
 use Rattle.std.specs.Option.{option_copied}
-use Rattle.gs_sdp.specs.Lines.{lines_of, value_in, later, last_value}
+use Rattle.gs_sdp.specs.Lines.{crlf_lines, value_in, later, last_value}
 use Rattle.gs_sdp.proofs.Walk.{goes_on, ends, at_start, found_more}
 use Rattle.gs_sdp.proofs.lines.last_value.Goals as goal
 use Rattle.gs_sdp.proofs.lines.last_value.Goals.{then-byte-eq10, else-byte-eq10}
@@ -18,7 +18,7 @@ loop-i-preserved c =
           rw (w.start-is, w.found-is, e) (record {
             start = omega arith;
             line = at_start body (l.i + 1);
-            found = found_more name line (lines_of (drop (l.i + 1) body)) (option_copied l.found) (last_value name body) (lines_of (drop l.start body))
+            found = found_more name line (crlf_lines (drop (l.i + 1) body)) (option_copied l.found) (last_value name body) (crlf_lines (drop l.start body))
                 (ends body l.start l.i l.invariant.start c.loop-i-test.true w.if-byte-eq10.true l.invariant.line) l.invariant.found;
           })
       | else-byte-eq10 w ↦

@@ -3,7 +3,7 @@ use Rattle.std.proofs.lemmas.List.{take_at}
 use Rattle.std.proofs.lemmas.Nat.{mul-le}
 use Rattle.gs_rtp.specs.Stream.{numbers_of}
 use Rattle.gs_split.specs.Splitting.{KeepsShards}
-use Rattle.gs_split.specs.Loaded.{outgoing}
+use Rattle.gs_split.specs.Loaded.{loaded_outgoing}
 use Rattle.gs_split.proofs.PlannedFrames.{limits_of, planned-most}
 use Rattle.gs_split.proofs.Carried.{parity-of_some, percentage-of_parity}
 use Rattle.gs_split.proofs.splitter.keep_shards.Goals as goal
@@ -23,7 +23,7 @@ lengthen-requires c =
 pub returns-clause-shards : goal.returns-clause-shards
 returns-clause-shards c = λ parity.
     let s = numbers_of c.args.settings.now in
-    let out = outgoing c.args.frame.now c.args.unit.now in
+    let out = loaded_outgoing c.args.frame.now c.args.unit.now in
     let written = c.write_front.new.kept in
     let rest = drop (length written) c.lengthen.new.bytes.items in
     subst (λ (l : List ℕ). KeepsShards s out l)

@@ -1,7 +1,7 @@
 use Rattle.std.proofs.Common.{◌≡◌, ◌<◌, ◌∷◌, [], List, length, ap, sym, subst, ◌∙◌, arith}
 use Rattle.gs_tape.specs.Tick.{Tick}
 use Rattle.gs_tape.specs.Capture.{file}
-use Rattle.gs_tape.specs.Generated.{generated, to_come}
+use Rattle.gs_tape.specs.Generated.{generated, ticks_to_come}
 use Rattle.gs_tape.proofs.GeneratedWithin.{generated_is_writable}
 use Rattle.gs_tape.proofs.GeneratedFile.{AreNext, Written, all_next, first_next, others_next, head_part, same_faults, written_end_part, written_head}
 use Rattle.gs_tape.proofs.GeneratedFile.{written_on, written_so_far, written_tick_part, written_whole}
@@ -12,7 +12,7 @@ put-requires g c = first_next _ _ _ c.in-Some.tick (rw c.in-Some.is at c.in_ok-t
 
 pub ticks-preserved : goal.ticks-preserved
 ticks-preserved g c =
-    let is : to_come c.ticks.generator ≡ c.in-Some.tick ∷ to_come c.next.new.self = rw c.in-Some.is at c.in_ok-tick.ensures.tick in
+    let is : ticks_to_come c.ticks.generator ≡ c.in-Some.tick ∷ ticks_to_come c.next.new.self = rw c.in-Some.is at c.in_ok-tick.ensures.tick in
     record {
       next = others_next _ _ _ _ c.in-Some.tick is c.in_ok-put.ensures.writer c.ticks.invariant.next;
       written = written_on _ _ _ c.in-Some.tick _ _ _ is c.ticks.invariant.written c.in_ok-put.ensures.ok;
@@ -33,21 +33,21 @@ ticks-init g c =
 
 pub returns-clause-ok : goal.returns-clause-ok
 returns-clause-ok g c =
-    written_whole c.end.result _ (to_come c.ticks.generator) _ _ _ (rw c.in_default.is at c.in_ok-tick.ensures.none) c.ticks.invariant.written
+    written_whole c.end.result _ (ticks_to_come c.ticks.generator) _ _ _ (rw c.in_default.is at c.in_ok-tick.ensures.none) c.ticks.invariant.written
     c.end.ensures.ok
 
 pub returns-in_err-writer-clause-err : goal.returns-in_err-writer-clause-err
 returns-in_err-writer-clause-err g c = head_part _ 240 5 (generated c.args.number c.args.ticks) _ _ c.in_err-writer.ensures.err
 
 pub returns-in_err-tick-clause-err : goal.returns-in_err-tick-clause-err
-returns-in_err-tick-clause-err g c = written_so_far _ _ (to_come c.ticks.generator) _ _ c.ticks.invariant.written
+returns-in_err-tick-clause-err g c = written_so_far _ _ (ticks_to_come c.ticks.generator) _ _ c.ticks.invariant.written
 
 pub returns-in_err-put-clause-err : goal.returns-in_err-put-clause-err
 returns-in_err-put-clause-err g c =
-    let is : to_come c.ticks.generator ≡ c.in-Some.tick ∷ to_come c.next.new.self = rw c.in-Some.is at c.in_ok-tick.ensures.tick in
+    let is : ticks_to_come c.ticks.generator ≡ c.in-Some.tick ∷ ticks_to_come c.next.new.self = rw c.in-Some.is at c.in_ok-tick.ensures.tick in
     written_tick_part _ _ _ _ c.in-Some.tick _ _ _ is c.ticks.invariant.written c.in_err-put.ensures.err
 
 pub returns-clause-err : goal.returns-clause-err
 returns-clause-err g c =
-    written_end_part c.end.result _ (to_come c.ticks.generator) _ _ _ (rw c.in_default.is at c.in_ok-tick.ensures.none) c.ticks.invariant.written
+    written_end_part c.end.result _ (ticks_to_come c.ticks.generator) _ _ _ (rw c.in_default.is at c.in_ok-tick.ensures.none) c.ticks.invariant.written
     c.end.ensures.err

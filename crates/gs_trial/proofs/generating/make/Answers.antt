@@ -2,7 +2,7 @@ use Rattle.std.proofs.Common.{◌∙◌, ◌<◌, ◌-◌, ◌^◌, List, length
 use Rattle.std.specs.List.{All}
 use Rattle.std.proofs.lemmas.Result.{err_from_is_err_and}
 use Rattle.gs_schedule.specs.declared.step.Step.{Step}
-use Rattle.gs_trial.specs.Stepping.{IsProper}
+use Rattle.gs_trial.specs.Stepping.{IsStepAllowed}
 use Rattle.gs_trial.proofs.GeneratedSteps.{few_steps, proper_steps}
 use Rattle.gs_trial.proofs.Made.{make_ends, make_finishes, unmade}
 use Rattle.gs_trial.proofs.generating.make.Goals as goal
@@ -18,7 +18,7 @@ returns-in_default-open-2-clause-answers g c = unmade c.whole_runs_hold.ensures.
 
 pub run_steps-requires-clause-proper : goal.run_steps-requires-clause-proper
 run_steps-requires-clause-proper g c =
-    subst (λ (l : List Step). All IsProper l) (sym (c.deref.ensures.value ∙ c.in-Ok.ensures.steps)) (proper_steps c.args.generated.ticks)
+    subst (λ (l : List Step). All IsStepAllowed l) (sym (c.deref.ensures.value ∙ c.in-Ok.ensures.steps)) (proper_steps c.args.generated.ticks)
 
 pub run_steps-requires-clause-few : goal.run_steps-requires-clause-few
 run_steps-requires-clause-few g c =

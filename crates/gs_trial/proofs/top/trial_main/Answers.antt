@@ -46,7 +46,8 @@ returns-in-Ok-Make-clause-complete_generated g c = λ command is no_write.
     let generated = c.in-Ok-Make.generated in
     of_command _ (Make generated) command _ read.1 is
     (subst (CompletesGenerated (Make generated)) (sym c.status_of-in-Ok-Make.ensures)
-    (completes_make generated.number generated.ticks _ _ c.make.result _ _ made.answers made.cause made.not_tape made.not_schedule made.write_faults no_write))
+    (completes_make generated.number generated.ticks _ _ c.make.result _ _ (command_few (map string_bytes c.args.words.now) (Make generated) read.1)
+    made.answers made.cause made.not_tape made.not_schedule made.write_faults no_write))
 
 pub returns-in-Ok-Tape-clause-complete_generated : goal.returns-in-Ok-Tape-clause-complete_generated
 returns-in-Ok-Tape-clause-complete_generated g c = λ command is no_write.

@@ -1,12 +1,12 @@
 use Rattle.std.proofs.Common.{◌≡◌, ◌∙◌, List, ℕ, Option, Ok, Some, ap, arith, rules}
-use Rattle.gs_tape.specs.Reading.{read}
+use Rattle.gs_tape.specs.Reading.{read_tape}
 use Rattle.gs_tape.specs.Tick.{Tick}
 use Rattle.gsbench.proofs.Captures.{adds_no_more, all_read, ended, fewer_left, gave, none_yet, one_more}
 use Rattle.gsbench.proofs.tape.read_once.Goals as goal
 
 pub ticks-init : goal.ticks-init
 ticks-init c =
-    none_yet c.args.file.now _ _ (c.in_ok-tape.ensures.opens.unread_is ∙ ap (λ (bytes : List ℕ). Some (read bytes)) c.in_ok-source.ensures.bytes)
+    none_yet c.args.file.now _ _ (c.in_ok-tape.ensures.opens.unread_is ∙ ap (λ (bytes : List ℕ). Some (read_tape bytes)) c.in_ok-source.ensures.bytes)
     c.in_ok-copy_of.ensures
 
 pub overflow_add-seen : goal.overflow_add-seen

@@ -2,7 +2,7 @@ use Rattle.std.proofs.Common.{◌≡◌, ◌≢◌, ◌+◌, ◌*◌, ◌%◌, �
 use Rattle.std.specs.Vec.{with_items}
 use Rattle.std.proofs.lemmas.List.{with_items_is}
 use Rattle.gs_rtp.specs.Stream.{numbers_of}
-use Rattle.gs_audio.specs.Sending.{Sending, HasParity, HasPushed}
+use Rattle.gs_audio.specs.Sending.{Sending, HasParityShards, HasPushed}
 use Rattle.gs_audio.proofs.Sent.{pushed-part, pushed-whole}
 use Rattle.gs_audio.proofs.sender.AudioSender.push.Goals as goal
 
@@ -48,4 +48,4 @@ returns-clause-pushed c = λ units has.
     pushed-whole s _ units u c.put.new.shards (subst (λ (v : Sending). HasPushed v units) (sym c.self.view_is) has) size refl refl refl last written
     (ap (λ (l : List ℕ). take far l) coded ∙ c.encode.ensures.units ∙ same)
     (λ us four sizes laid.
-    subst (λ (l : List ℕ). HasParity (length u) us l) (sym coded) (c.encode.ensures.parity us four sizes (same ∙ laid)))
+    subst (λ (l : List ℕ). HasParityShards (length u) us l) (sym coded) (c.encode.ensures.parity us four sizes (same ∙ laid)))

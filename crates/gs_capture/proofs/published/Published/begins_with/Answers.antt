@@ -1,18 +1,18 @@
 use Rattle.std.proofs.Common.{◌≡◌, ◌≤◌, List, length, rules, sym, ap, ◌∙◌, subst, arith}
 use Rattle.std.specs.Arc.{arc_value}
+use Rattle.std.proofs.lemmas.List.{length-map}
 use mathlib.Core.List.{IsPrefix}
 use Rattle.gs_tape.specs.Tick.{Tick}
 use Rattle.gs_capture.specs.Captures.{Capture}
-use Rattle.gs_capture.proofs.Captured.{prefix_shorter}
-use Rattle.gs_capture.proofs.Numbered.{as_many}
+use Rattle.gs_bytes.proofs.Lists.{prefix_shorter}
 use Rattle.gs_capture.proofs.published.Published.begins_with.Goals as goal
 
 pub returns : goal.returns
 returns c _ =
     let mine : length c.self.inside.ticks.items ≡ length c.args.self.now.ticks =
-    sym (as_many arc_value c.self.inside.ticks.items) ∙ ap (λ (x : Capture). length x.ticks) c.self.view_is in
+    sym (length-map c.self.inside.ticks.items arc_value) ∙ ap (λ (x : Capture). length x.ticks) c.self.view_is in
     let theirs : length c.other.inside.ticks.items ≡ length c.args.other.now.ticks =
-    sym (as_many arc_value c.other.inside.ticks.items) ∙ ap (λ (x : Capture). length x.ticks) c.other.view_is in
+    sym (length-map c.other.inside.ticks.items arc_value) ∙ ap (λ (x : Capture). length x.ticks) c.other.view_is in
     let fewer : length c.other.inside.ticks.items ≤ length c.self.inside.ticks.items = search rules in
     let both = c.learn.new.self.log in
     let of_self : c.again-both.result.log ≡ c.args.self.now.ticks =

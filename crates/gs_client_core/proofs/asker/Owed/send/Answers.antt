@@ -1,7 +1,7 @@
 use Rattle.std.proofs.Common.{◌≡◌, ◌∙◌, ℕ, List, take, subst, sym}
 use Rattle.gs_enet.specs.declared.send_error.SendError.TheVariants.{NotOpen, WindowFull, OutOfMemory}
 use Rattle.gs_enet.specs.Steps.{with_message}
-use Rattle.gs_enet.specs.Standing.{StandsFor as PeerStandsFor}
+use Rattle.gs_enet.specs.Standing.{IsPeerOf}
 use Rattle.gs_client_core.specs.Owed.{request_channel, owed_message}
 use Rattle.gs_client_core.proofs.Went.{message_bytes, refused, unsent}
 use Rattle.gs_client_core.proofs.asker.Owed.send.Goals as goal
@@ -12,7 +12,7 @@ returns-in-Ok c = λ r stands.
     let bytes : take c.write-length.result c.write-length.new.out ≡ owed_message c.args.self.now =
     message_bytes c.args.self.now c.message.result _ c.write-length.new.out c.write-length.result c.message.ensures.is c.write-length.ensures.length
     c.write-length.ensures.written in
-    (sends.0, subst (λ (l : List ℕ). PeerStandsFor c.send.new.self (with_message request_channel l r)) bytes sends.2)
+    (sends.0, subst (λ (l : List ℕ). IsPeerOf c.send.new.self (with_message request_channel l r)) bytes sends.2)
 
 pub returns-in-Err-NotOpen : goal.returns-in-Err-NotOpen
 returns-in-Err-NotOpen c = λ r stands.

@@ -1,6 +1,6 @@
 use Rattle.std.proofs.Common.{[], ap, sym, subst, arith}
 use Rattle.gs_rtp.specs.Stream.{StreamSettings}
-use Rattle.gs_audio.specs.Standing.{StandsFor as AudioStandsFor}
+use Rattle.gs_audio.specs.Standing.{IsAudioQueueOf}
 use Rattle.gs_client_core.proofs.client.Client.new.Goals as goal
 
 pub returns : goal.returns
@@ -10,5 +10,5 @@ returns c = λ client stream window.
       packet = ap (λ (s : StreamSettings). s.packet) (sym stream);
       queue = c.in_ok-new.ensures client stream window;
       depack = c.new-2.ensures client window;
-      audio = subst (λ (s : StreamSettings). AudioStandsFor c.in_ok-new-2.field-0 s []) (sym stream) c.in_ok-new-2.ensures;
+      audio = subst (λ (s : StreamSettings). IsAudioQueueOf c.in_ok-new-2.field-0 s []) (sym stream) c.in_ok-new-2.ensures;
     }

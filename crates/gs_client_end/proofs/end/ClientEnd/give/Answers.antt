@@ -4,7 +4,7 @@ use Rattle.gs_control.specs.declared.message.Message.TheVariants as message
 use Rattle.gs_control.specs.Message.{bytes_of}
 use Rattle.gs_run.specs.Session.{Part}
 use Rattle.gs_run.specs.Message.{event_channel}
-use Rattle.gs_client_end.specs.Standing.{StandsFor}
+use Rattle.gs_client_end.specs.Standing.{IsClientEndOf}
 use Rattle.gs_client_end.specs.Steps.{GivesMessage}
 use Rattle.gs_client_end.specs.Outcomes.{Gives}
 use Rattle.gs_client_end.proofs.Ends.{bytes_written, same_message}
@@ -14,9 +14,9 @@ pub returns : goal.returns
 returns c =
     let out = take c.write-length.result c.write-length.new.out in
     IfOk-weaker c.give_message.result
-    (λ done. (session : ℕ) (part : Part) → StandsFor c.args.self.now session part
+    (λ done. (session : ℕ) (part : Part) → IsClientEndOf c.args.self.now session part
     → GivesMessage session c.channel_of.result out part done c.give_message.new.self c.args.reporter.now c.give_message.new.reporter)
-    (λ done. (session : ℕ) (part : Part) → StandsFor c.args.self.now session part
+    (λ done. (session : ℕ) (part : Part) → IsClientEndOf c.args.self.now session part
     → Gives session c.args.event.now part done c.give_message.new.self c.args.reporter.now c.give_message.new.reporter)
     (λ done gives session part h.
     same_message session c.channel_of.result (event_channel c.args.event.now) out (bytes_of (message.Input c.args.event.now)) part done c.give_message.new.self

@@ -1,7 +1,7 @@
 use Rattle.std.proofs.Common.{refl, subst}
 use Rattle.std.specs.Prelude.{Err}
 use Rattle.gs_enet.specs.declared.send_error.SendError.{SendError}
-use Rattle.gs_sides.specs.Outcomes.{Sends}
+use Rattle.gs_sides.specs.Outcomes.{SideSends}
 use Rattle.gs_client_end.proofs.Ends.{message_given, window_full}
 use Rattle.gs_client_end.proofs.end.ClientEnd.give_message.Goals as goal
 
@@ -15,5 +15,5 @@ pub returns-in_ok-report-in-Err-WindowFull : goal.returns-in_ok-report-in-Err-Wi
 returns-in_ok-report-in-Err-WindowFull c = λ session part h.
     window_full c.args.self.now _ session c.args.channel c.args.bytes.now part c.args.reporter.now _ h
     (record { session = refl; client = refl; asker = refl; owed = refl; sums = refl })
-    (subst (λ (e : SendError). Sends part.client c.args.channel c.args.bytes.now (Err e) c.send.new.self) c.in-Err-WindowFull.field-0-is
+    (subst (λ (e : SendError). SideSends part.client c.args.channel c.args.bytes.now (Err e) c.send.new.self) c.in-Err-WindowFull.field-0-is
     (c.in-Err-WindowFull.ensures part.client h.side)) c.in_ok-report-in-Err-WindowFull.ensures.ok

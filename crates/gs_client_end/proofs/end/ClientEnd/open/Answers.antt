@@ -1,7 +1,7 @@
 use Rattle.std.proofs.Common.{ℕ, refl, sym, subst}
 use Rattle.gs_enet.specs.Record.{connecting}
 use Rattle.gs_enet.specs.Sides.{new_side}
-use Rattle.gs_sides.specs.Standing.{StandsFor as IsSideOf}
+use Rattle.gs_sides.specs.Standing.{IsSideOf}
 use Rattle.gs_client_end.proofs.Streams.{no_sums}
 use Rattle.gs_client_end.proofs.end.ClientEnd.open.Goals as goal
 

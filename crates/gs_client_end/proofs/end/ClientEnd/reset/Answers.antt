@@ -2,7 +2,7 @@ use Rattle.std.proofs.Common.{[], ◌∷◌, sym, ap, subst, ◌∙◌}
 use Rattle.gs_frames.specs.Client.{Reset}
 use Rattle.gs_schedule.specs.declared.output.Output.TheVariants as output
 use Rattle.gs_client_core.specs.declared.client.Client.{Client}
-use Rattle.gs_client_core.specs.Standing.{StandsFor as IsClientOf}
+use Rattle.gs_client_core.specs.Standing.{IsClientOf}
 use Rattle.gs_run.specs.Report.{plain}
 use Rattle.gs_report.specs.Reporting.{with_reports}
 use Rattle.gs_client_end.specs.declared.end.ClientEnd.{ClientEnd}

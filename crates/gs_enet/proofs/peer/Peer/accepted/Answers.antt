@@ -1,11 +1,11 @@
 use Rattle.std.proofs.Common.{refl, sym, subst}
-use Rattle.gs_enet.specs.Standing.{StandsFor}
+use Rattle.gs_enet.specs.Standing.{IsPeerOf}
 use Rattle.gs_enet.proofs.Acknowledging.{connected-accepting, connected-other}
 use Rattle.gs_enet.proofs.peer.Peer.accepted.Goals as goal
 
 pub returns-then-is_accepting-clause-stands : goal.returns-then-is_accepting-clause-stands
 returns-then-is_accepting-clause-stands c = λ r s.
-    subst (StandsFor c.happen.new.self) (sym (connected-accepting r c.args.self.now.state s.state (sym c.if-is_accepting.ensures)))
+    subst (IsPeerOf c.happen.new.self) (sym (connected-accepting r c.args.self.now.state s.state (sym c.if-is_accepting.ensures)))
     (c.happen.ensures.stands _ (record {
       state = refl;
       own = s.own;
@@ -23,4 +23,4 @@ returns-then-is_accepting-clause-stands c = λ r s.
 
 pub returns-else-is_accepting-clause-stands : goal.returns-else-is_accepting-clause-stands
 returns-else-is_accepting-clause-stands c = λ r s.
-    subst (StandsFor c.args.self.now) (sym (connected-other r c.args.self.now.state s.state (sym c.if-is_accepting.ensures))) s
+    subst (IsPeerOf c.args.self.now) (sym (connected-other r c.args.self.now.state s.state (sym c.if-is_accepting.ensures))) s

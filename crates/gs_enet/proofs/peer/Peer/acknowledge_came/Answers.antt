@@ -1,5 +1,5 @@
 use Rattle.std.proofs.Common.{◌<◌, ◌≤◌, refl, sym, subst, arith}
-use Rattle.gs_enet.specs.Standing.{StandsFor}
+use Rattle.gs_enet.specs.Standing.{IsPeerOf}
 use Rattle.gs_enet.proofs.Acknowledging.{nowhere_named, channel_drops, channel_keeps}
 use Rattle.gs_enet.proofs.peer.Peer.acknowledge_came.Goals as goal
 
@@ -8,7 +8,7 @@ returns-then-place-len-clause-stands c = λ r s.
     let p = c.args.self.now in
     let all = p.all in
     let at = c.from-place.ensures in
-    subst (StandsFor p) (sym (nowhere_named p r c.args.channel c.args.number s (omega (arith, all, at)) c.if-channel-eq-CONTROL.false)) s
+    subst (IsPeerOf p) (sym (nowhere_named p r c.args.channel c.args.number s (omega (arith, all, at)) c.if-channel-eq-CONTROL.false)) s
 
 pub returns-then-acknowledge-clause-stands : goal.returns-then-acknowledge-clause-stands
 returns-then-acknowledge-clause-stands c = λ r s.
@@ -18,7 +18,7 @@ returns-then-acknowledge-clause-stands c = λ r s.
     let below : c.args.channel < 48 = omega (arith, all, at) in
     let drop = channel_drops p r c.args.channel c.from-place.result c.args.number c.index_mut-acknowledged.result.now c.acknowledge.new.self s below at
     c.index_mut-acknowledged.ensures.value c.if-acknowledge.ensures.drops in
-    subst (StandsFor c.leave.new.self) (sym drop.0)
+    subst (IsPeerOf c.leave.new.self) (sym drop.0)
     (c.leave.ensures.stands _ (record {
       state = s.state;
       own = s.own;

@@ -5,18 +5,18 @@ use Rattle.gs_enet.specs.declared.control.ControlKind.{ControlKind}
 use Rattle.gs_enet.specs.declared.control.ControlKind.TheVariants as kind
 use Rattle.gs_enet.specs.Receive.{is_named, acknowledged, connected}
 use Rattle.gs_enet.specs.Controls.{content_of, control_held}
-use Rattle.gs_enet.specs.Standing.{StandsFor}
+use Rattle.gs_enet.specs.Standing.{IsPeerOf}
 use Rattle.gs_enet.proofs.Acknowledging.{control_kept, control_unnamed, control_dropped, control_hit}
 use Rattle.gs_enet.proofs.peer.Peer.acknowledge_control.Goals as goal
 
 pub returns-in_default-clause-stands : goal.returns-in_default-clause-stands
 returns-in_default-clause-stands c = λ r s.
-    subst (StandsFor c.args.self.now)
+    subst (IsPeerOf c.args.self.now)
     (sym (control_kept c.args.self.now r c.args.number s (ap (λ (k : Option Control). find (is_named 255 c.args.number) (control_held k)) c.in_default.is))) s
 
 pub returns-then-control-number-clause-stands : goal.returns-then-control-number-clause-stands
 returns-then-control-number-clause-stands c = λ r s.
-    subst (StandsFor c.args.self.now) (sym (control_unnamed c.args.self.now r c.args.number c.in-Some.control s c.in-Some.is c.if-control-number.true)) s
+    subst (IsPeerOf c.args.self.now) (sym (control_unnamed c.args.self.now r c.args.number c.in-Some.control s c.in-Some.is c.if-control-number.true)) s
 
 pub returns-in-Connect-clause-stands : goal.returns-in-Connect-clause-stands
 returns-in-Connect-clause-stands c = λ r s.

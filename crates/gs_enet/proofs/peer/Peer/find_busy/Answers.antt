@@ -8,12 +8,10 @@ use Rattle.gs_enet.specs.Write.{is_due}
 use Rattle.gs_enet.specs.Channels.{AreSame, all_held, HasDue}
 use Rattle.gs_enet.specs.Busy.{AreIdle}
 use Rattle.gs_enet.specs.Controls.{control_held}
-use Rattle.gs_enet.specs.Standing.{HasCounts, StandsFor}
+use Rattle.gs_enet.specs.Standing.{HasCounts, IsPeerOf}
 use Rattle.gs_enet.proofs.Due.{same_held, counts_same, settled_before, all_settled}
+use Rattle.gs_enet.proofs.Standings.{sizes}
 use Rattle.gs_enet.proofs.peer.Peer.find_busy.Goals as goal
-
-sized : (p : Peer) → length p.channels.items ≡ 48
-sized p = let all = p.all in let ok = p.channels.ok.0 in omega (arith, all, ok)
 
 -- no channel may have a message that is to be written
 none_due : (n : ℕ) (ys : List Channel) → AreIdle n n ys → filter is_due (all_held 0 ys) ≡ []
@@ -72,7 +70,7 @@ returns-clause-some c =
     let to = c.find_busy-self.ensures.to in
     let apart = c.if-self.false in
     let below : c.find_busy-self.result < 48 = omega (arith, most, to, apart) in
-    let size : length ys ≡ 48 = c.find_busy-self.auto.channels ∙ ap length c.deref_mut.ensures.value ∙ sized p in
+    let size : length ys ≡ 48 = c.find_busy-self.auto.channels ∙ ap length c.deref_mut.ensures.value ∙ sizes p in
     record {
       below = below;
       before = ap (λ (l : List Channel). filter is_due (all_held 0 (take c.find_busy-self.result l))) new

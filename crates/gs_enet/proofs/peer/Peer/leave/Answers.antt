@@ -2,7 +2,7 @@ use Rattle.std.proofs.Common.{◌≡◌, ◌+◌, ℕ, List, [], ◌∷◌, ◌+
 use Rattle.gs_enet.specs.Record.{Unacknowledged, Disconnect, control, fresh}
 use Rattle.gs_enet.specs.Channels.{all_held}
 use Rattle.gs_enet.specs.Controls.{unacknowledged_control}
-use Rattle.gs_enet.specs.Standing.{StandsFor, held_by}
+use Rattle.gs_enet.specs.Standing.{IsPeerOf, held_by}
 use Rattle.gs_enet.proofs.Standings.{leaving-left, nothing_to, empty_held}
 use Rattle.gs_enet.proofs.peer.Peer.leave.Goals as goal
 

@@ -4,7 +4,7 @@ use Rattle.std.proofs.lemmas.List.{map-append, with_items_is}
 use Rattle.std.proofs.lemmas.List.Elements.{length_all_zip}
 use Rattle.gs_enet.specs.declared.channel.Channel.{Channel}
 use Rattle.gs_enet.specs.Record.{Unacknowledged}
-use Rattle.gs_enet.specs.Steps.{is_lost, due_again}
+use Rattle.gs_enet.specs.Steps.{had_last_wait, due_again}
 use Rattle.gs_enet.specs.Channels.{all_held, MarksDue}
 use Rattle.gs_enet.specs.Controls.{control_held}
 use Rattle.gs_enet.specs.Standing.{HasCounts}
@@ -15,13 +15,13 @@ use Rattle.gs_enet.proofs.peer.Peer.mark_due.Goals as goal
 pub mark_control-requires : goal.mark_control-requires
 mark_control-requires c =
     let p = c.args.self.now in
-    (find_none_parts (is_lost p.moment) (control_held p.control) (all_held 0 p.channels.items) (named_none _ c.requires)).0
+    (find_none_parts (had_last_wait p.moment) (control_held p.control) (all_held 0 p.channels.items) (named_none _ c.requires)).0
 
 pub mark_due-requires : goal.mark_due-requires
 mark_due-requires c =
     let p = c.args.self.now in
     rw c.deref_mut.ensures.value
-    (none_lost p.moment p.channels.items (find_none_parts (is_lost p.moment) (control_held p.control) (all_held 0 p.channels.items)
+    (none_lost p.moment p.channels.items (find_none_parts (had_last_wait p.moment) (control_held p.control) (all_held 0 p.channels.items)
     (named_none _ c.requires)).1)
 
 pub returns : goal.returns

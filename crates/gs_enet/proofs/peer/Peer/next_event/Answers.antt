@@ -4,7 +4,7 @@ use Rattle.gs_enet.specs.declared.event.PeerEvent.{PeerEvent}
 use Rattle.gs_enet.specs.declared.peer.Peer.{Peer}
 use Rattle.gs_enet.specs.Record.{PeerRecord}
 use Rattle.gs_enet.specs.Steps.{first_event, telling, told_next}
-use Rattle.gs_enet.specs.Standing.{StandsFor}
+use Rattle.gs_enet.specs.Standing.{IsPeerOf}
 use Rattle.gs_enet.proofs.Standings.{telling-first, none_left}
 use Rattle.gs_enet.proofs.peer.Peer.next_event.Goals as goal
 

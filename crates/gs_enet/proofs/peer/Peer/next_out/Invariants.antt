@@ -1,12 +1,12 @@
 use Rattle.std.proofs.Common.{◌≤◌, ◌-◌}
 use Rattle.gs_enet.specs.Record.{PeerRecord, at_moment}
-use Rattle.gs_enet.specs.Standing.{StandsFor}
+use Rattle.gs_enet.specs.Standing.{IsPeerOf}
 use Rattle.gs_enet.proofs.Outgoing.{HasWritten}
 use Rattle.gs_enet.proofs.peer.Peer.next_out.Given as goal
 
 abbrev pub invariant-items : goal.invariant-items
 invariant-items l = record {
-  so_far : (r : PeerRecord) → StandsFor l.fn.self r → HasWritten (at_moment l.now r) l.place l.self l.fn.out l.out;
+  so_far : (r : PeerRecord) → IsPeerOf l.fn.self r → HasWritten (at_moment l.now r) l.place l.self l.fn.out l.out;
   room : l.place ≤ 1392;
 }
 

@@ -1,14 +1,14 @@
 use Rattle.std.proofs.Common.{◌≡◌, length}
 use Rattle.gs_enet.specs.Record.{PeerRecord}
 use Rattle.gs_enet.specs.Receive.{all_received}
-use Rattle.gs_enet.specs.Standing.{StandsFor}
+use Rattle.gs_enet.specs.Standing.{IsPeerOf}
 use Rattle.gs_enet.specs.Rooms.{HasRooms}
 use Rattle.gs_enet.proofs.peer.Peer.receive_all.Given as goal
 
 abbrev pub invariant-commands : goal.invariant-commands
 invariant-commands l = record {
   room : HasRooms (length l.rest.items) l.self;
-  stands : (r : PeerRecord) → StandsFor l.initial.self r → (t : PeerRecord) × StandsFor l.self t
+  stands : (r : PeerRecord) → IsPeerOf l.initial.self r → (t : PeerRecord) × IsPeerOf l.self t
       × (all_received l.sent l.rest.items t ≡ all_received l.sent l.initial.rest.items r);
 }
 

@@ -3,7 +3,7 @@ use Rattle.std.proofs.lemmas.Bool.{and_from}
 use Rattle.gs_enet.specs.Record.{Unacknowledged, Message, fresh}
 use Rattle.gs_enet.specs.Steps.{is_open, is_full, can_send, next_number, placed, with_message}
 use Rattle.gs_enet.specs.Channels.{next_of, GivesOne}
-use Rattle.gs_enet.specs.Standing.{StandsFor}
+use Rattle.gs_enet.specs.Standing.{IsPeerOf}
 use Rattle.gs_enet.proofs.Standings.{channel_is_full, sends_one, sends_none}
 use Rattle.gs_enet.proofs.peer.Peer.send.Goals as goal
 

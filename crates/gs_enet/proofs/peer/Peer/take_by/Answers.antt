@@ -2,7 +2,7 @@ use Rattle.std.proofs.Common.{◌≡◌, ◌≤◌, ℕ, length, subst, arith}
 use Rattle.gs_enet_wire.specs.Grammar.{with_header}
 use Rattle.gs_enet.specs.Record.{at_moment}
 use Rattle.gs_enet.specs.Receive.{all_received}
-use Rattle.gs_enet.specs.Standing.{StandsFor}
+use Rattle.gs_enet.specs.Standing.{IsPeerOf}
 use Rattle.gs_enet.specs.Rooms.{HasRooms}
 use Rattle.gs_enet.proofs.Commands.{few_commands, rooms_after}
 use Rattle.gs_enet.proofs.peer.Peer.take_by.Goals as goal
@@ -29,6 +29,6 @@ returns-clause-taken c =
       datagram = with_header c.in-Ok.header cs.items;
       spelled = c.in-Ok.ensures.found;
       stands = λ r s.
-          subst (λ (sent : ℕ). StandsFor c.receive_all.new.self (all_received sent cs.items (at_moment c.args.now r))) c.unwrap_or.ensures
+          subst (λ (sent : ℕ). IsPeerOf c.receive_all.new.self (all_received sent cs.items (at_moment c.args.now r))) c.unwrap_or.ensures
           (c.receive_all.ensures (at_moment c.args.now r) (c.see.ensures.stands r (c.make_room.ensures.same r s)));
     }

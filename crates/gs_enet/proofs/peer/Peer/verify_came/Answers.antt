@@ -4,14 +4,14 @@ use Rattle.std.specs.List.{filter}
 use Rattle.gs_enet.specs.declared.state.PeerState.TheVariants as state
 use Rattle.gs_enet.specs.Record.{Unacknowledged}
 use Rattle.gs_enet.specs.Receive.{is_connect}
-use Rattle.gs_enet.specs.Standing.{StandsFor}
+use Rattle.gs_enet.specs.Standing.{IsPeerOf}
 use Rattle.gs_enet.proofs.Arrivals.{verify-is, held_without_connect}
 use Rattle.gs_enet.proofs.peer.Peer.verify_came.Goals as goal
 
 pub returns-in-Connecting-clause-stands : goal.returns-in-Connecting-clause-stands
 returns-in-Connecting-clause-stands c = λ r s.
     let p = c.args.self.now in
-    subst (StandsFor c.owe.new.self)
+    subst (IsPeerOf c.owe.new.self)
     (sym (verify-is state.Connecting c.args.peer c.args.connect_id c.args.answer r (ap is_some s.extra ∙ c.if-is_none.ensures)
     (c.if-connect_id-self.false ∙ sym s.connect_id) (s.state ∙ c.in-Connecting.is)))
     (c.owe.ensures.stands _ (c.happen.ensures.stands _ (record {

@@ -4,7 +4,7 @@ use Rattle.std.proofs.lemmas.Bool.{eq-eqb, eqb-true, and_parts}
 use Rattle.gs_frames.specs.declared.verdict.Added.TheVariants.{BlockWhole}
 use Rattle.gs_frames.specs.Shards.{payload_of}
 use Rattle.gs_frames.specs.Complete.{joined_payloads}
-use Rattle.gs_fecqueue.specs.Holding.{data_of}
+use Rattle.gs_fecqueue.specs.Holding.{data_of_block}
 use Rattle.gs_fecqueue.specs.BlockVerdict.{made_block_whole}
 use Rattle.gs_fecqueue.proofs.Taking.{join-are, join-room, join-placed, kept-room}
 use Rattle.gs_fecqueue.proofs.block.Block.hold.Goals as goal
@@ -29,6 +29,6 @@ returns c = λ s held first r ready joins.
         are = are;
         room = kept-room b1 c.restore.new.self (r ∷ held) first room kept;
         placed = λ few. absurd (omega arith);
-        whole = λ e. ap (λ (n : ℕ). data_of n c.restore.new.self) size ∙ joined;
+        whole = λ e. ap (λ (n : ℕ). data_of_block n c.restore.new.self) size ∙ joined;
       },
     )

@@ -8,7 +8,7 @@ use Rattle.gs_frames.specs.Received.{Received}
 use Rattle.gs_frames.specs.Verdict.{is_block_whole, is_frame_whole}
 use Rattle.gs_frames.specs.Complete.{payloads}
 use Rattle.gs_fecqueue.specs.declared.frame.Frame.{Frame}
-use Rattle.gs_fecqueue.specs.Holding.{data_of}
+use Rattle.gs_fecqueue.specs.Holding.{data_of_block}
 use Rattle.gs_fecqueue.specs.FrameHolding.{is_whole_room, HoldsBlocks, HoldsFrame, completed}
 use Rattle.gs_fecqueue.proofs.Frames.{all_whole, range-each, payloads-held}
 use Rattle.gs_fecqueue.proofs.frame.Frame.complete.Goals as goal
@@ -52,7 +52,7 @@ returns-clause-holds c = λ s counted first size holds.
     (λ b i block e at. let same : b ≡ i = omega arith in
     holds.blocks i block (ap (λ (n : ℕ). Rattle.std.specs.List.slice_get frame.blocks n) (sym same) ∙ e))
     (λ b h. range-each (is_block_whole counted frame.number) 0 n b whole (omega arith) (omega arith)) in
-    let At : ℕ → ℕ → List ℕ = λ z m. flat_map (data_of z) (take (m + 1) frame.blocks) in
+    let At : ℕ → ℕ → List ℕ = λ z m. flat_map (data_of_block z) (take (m + 1) frame.blocks) in
     let image : c.join.new.image.items ≡ At (payload_of s) first.head.last_block =
     c.join.ensures.joined ∙ ap (At c.args.size) (c.from.ensures ∙ holds.last) ∙ ap (λ (z : ℕ). At z first.head.last_block) (sym size) in (
       sym (cond-true (is_frame_whole counted frame.number first.head.last_block) FrameWhole BlockWhole whole),

@@ -7,7 +7,7 @@ use Rattle.gs_frames.specs.declared.verdict.Added.{Added}
 use Rattle.gs_frames.specs.declared.verdict.Added.TheVariants.{BlockWhole, FrameWhole}
 use Rattle.gs_frames.specs.Shards.{payload_of}
 use Rattle.gs_frames.specs.Received.{Received, oldest, is_of_block}
-use Rattle.gs_frames.specs.Verdict.{is_counted}
+use Rattle.gs_frames.specs.Verdict.{is_counting}
 use Rattle.gs_fecqueue.specs.declared.block.Block.{Block}
 use Rattle.gs_fecqueue.specs.declared.frame.Frame.{Frame}
 use Rattle.gs_fecqueue.specs.Holding.{HoldsBlock, Brings}
@@ -28,12 +28,12 @@ verdict-other s before after counted first r v was by other =
 -- and of one whose block did
 verdict-whole : (s : StreamSettings) (before after : Frame) (counted : List Received) (first r : Received) (v done : Added)
     → HoldsFrame s before counted first → TakenByBlock s before after counted first r v → v ≡ BlockWhole → r.head.frame ≡ before.number
-    → done ≡ completed (counted_behind (is_counted v) r counted) before.number first.head.last_block → done ≡ frame_verdict first r counted
+    → done ≡ completed (counted_behind (is_counting v) r counted) before.number first.head.last_block → done ≡ frame_verdict first r counted
 verdict-whole s before after counted first r v done was by whole frame_is done_is =
-    let counts : is_counted v ≡ true = ap is_counted whole in
+    let counts : is_counting v ≡ true = ap is_counting whole in
     let held = filter (is_of_block r.head.frame r.head.block) counted in
     let o = oldest (is_of_block r.head.frame r.head.block) counted in
-    let same = (counted-same before.last_block r held o (ap is_counted (sym by.verdict) ∙ counts)).0 in
+    let same = (counted-same before.last_block r held o (ap is_counting (sym by.verdict) ∙ counts)).0 in
     let last : first.head.last_block ≡ r.head.last_block = sym was.holds.last ∙ same in
     done_is
     ∙ ap (λ (b : Bool). completed (counted_behind b r counted) before.number first.head.last_block) counts
@@ -87,7 +87,7 @@ returns-in-BlockWhole-clause-verdict c = λ s counted first r was frame_is bring
     (λ held o h. c.take.ensures.verdict s held o r h brings) (λ held o h. c.take.ensures.holds s held o r h brings) refl refl refl in
     let size : payload_of s ≡ length c.args.payload.now = sym brings.size in
     let whole : c.take.result ≡ BlockWhole = search rules in
-    let done = (c.complete.ensures.holds s (counted_behind (is_counted c.take.result) r counted) first size
+    let done = (c.complete.ensures.holds s (counted_behind (is_counting c.take.result) r counted) first size
     (taken-blocks s frame _ counted first r c.args.head.now
     c.args.payload.now c.from.result old c.take.new.self c.take.result was frame_is brings c.requires.grammar c.from.ensures there
     (λ held o h. c.take.ensures.verdict s held o r h brings) (λ held o h. c.take.ensures.holds s held o r h brings) refl refl refl)).0 in
@@ -101,12 +101,12 @@ returns-in-BlockWhole-clause-holds c = λ s counted first r was frame_is brings.
     let there : slice_get frame.blocks c.from.result ≡ Some old = slice_get-get_or frame.blocks c.from.result c.index-self-from.result (omega arith) in
     let size : payload_of s ≡ length c.args.payload.now = sym brings.size in
     let whole : c.take.result ≡ BlockWhole = search rules in
-    let counted_now = counted_behind (is_counted c.take.result) r counted in
+    let counted_now = counted_behind (is_counting c.take.result) r counted in
     let done = c.complete.ensures.holds s counted_now first size
     (taken-blocks s frame _ counted first r c.args.head.now
     c.args.payload.now c.from.result old c.take.new.self c.take.result was frame_is brings c.requires.grammar c.from.ensures there
     (λ held o h. c.take.ensures.verdict s held o r h brings) (λ held o h. c.take.ensures.holds s held o r h brings) refl refl refl) in
-    let counts : is_counted c.take.result ≡ is_counted c.complete.result =
-    ap is_counted whole ∙ sym (ap is_counted done.0 ∙ completed-counts counted_now frame.number first.head.last_block) in
+    let counts : is_counting c.take.result ≡ is_counting c.complete.result =
+    ap is_counting whole ∙ sym (ap is_counting done.0 ∙ completed-counts counted_now frame.number first.head.last_block) in
     let Holds : Bool → Type 0 = λ b. HoldsFrame s c.complete.new.self (counted_behind b r counted) first in
     subst Holds counts done.1

@@ -11,13 +11,13 @@ use Rattle.gs_frames.specs.declared.verdict.Added.{Added}
 use Rattle.gs_frames.specs.declared.verdict.Added.TheVariants.{Old}
 use Rattle.gs_frames.specs.Client.{ClientSettings}
 use Rattle.gs_frames.specs.Received.{Received, greatest, is_left, oldest, is_of_frame}
-use Rattle.gs_frames.specs.Verdict.{first_or, is_counted, judged, counting}
+use Rattle.gs_frames.specs.Verdict.{first_or, is_counting, judged, counting}
 use Rattle.gs_fecqueue.specs.declared.frame.Frame.{Frame}
 use Rattle.gs_fecqueue.specs.declared.queue.Queue.{Queue}
 use Rattle.gs_fecqueue.specs.Holding.{Brings}
 use Rattle.gs_fecqueue.specs.FrameHolding.{HoldsFrame, frame_verdict, counted_behind}
 use Rattle.gs_fecqueue.specs.Moves.{moved_behind}
-use Rattle.gs_fecqueue.specs.Standing.{HasCome, IsStanding}
+use Rattle.gs_fecqueue.specs.Standing.{HasFrameCome, IsStanding}
 use Rattle.gs_fecqueue.specs.QueueSteps.{IsAdvanced, IsOpened}
 use Rattle.gs_fecqueue.proofs.OtherFrames.{counting-behind}
 use Rattle.gs_fecqueue.proofs.Ready.{IsReadyFor, ready, stands-with}
@@ -27,12 +27,12 @@ use Rattle.gs_fecqueue.proofs.queue.Queue.take.Goals as goal
 taken : (q2 q3 : Queue) (c : ClientSettings) (now : List Received) (r : Received) (head : VideoHead) (payload : List ℕ) (place : ℕ) (old new : Frame)
     (v : Added)
     → IsReadyFor q2 c now r → is_left c.window now r.head.frame ≡ false → Brings c.stream head payload r → 1 ≤ r.head.frame
-    → ((f : ℕ) → HasCome now f → 1 ≤ f)
+    → ((f : ℕ) → HasFrameCome now f → 1 ≤ f)
     → place ≡ r.head.frame % c.window → slice_get q2.frames.items place ≡ Some old → new.number ≡ old.number
     → ((counted : List Received) (first : Received) → HoldsFrame c.stream old counted first → r.head.frame ≡ old.number → Brings c.stream head payload r
     → v ≡ frame_verdict first r counted)
     → ((counted : List Received) (first : Received) → HoldsFrame c.stream old counted first → r.head.frame ≡ old.number → Brings c.stream head payload r
-    → HoldsFrame c.stream new (counted_behind (is_counted v) r counted) first)
+    → HoldsFrame c.stream new (counted_behind (is_counting v) r counted) first)
     → q3.packet ≡ q2.packet → q3.ssrc ≡ q2.ssrc → q3.window ≡ q2.window → q3.greatest ≡ q2.greatest
     → q3.frames.items ≡ set q2.frames.items place new
     → (v ≡ judged c.window r now (counting c.window now)) × IsStanding q3 c now (r ∷ now)
@@ -47,8 +47,8 @@ taken q2 q3 c now r head payload place old new v is not_left brings least before
     let v_is : v ≡ judged c.window r now counted =
     verdict counted first old_holds (sym old_number) brings
     ∙ sym (cond-false (is_left c.window now r.head.frame) (Old (greatest now)) (frame_verdict first r counted) not_left) in
-    let now_is : counting c.window (r ∷ now) ≡ counted_behind (is_counted v) r counted =
-    counting-behind c.window r now ∙ ap (λ (x : Added). counted_behind (is_counted x) r counted) (sym v_is) in
+    let now_is : counting c.window (r ∷ now) ≡ counted_behind (is_counting v) r counted =
+    counting-behind c.window r now ∙ ap (λ (x : Added). counted_behind (is_counting x) r counted) (sym v_is) in
     let Of : List Received → Type 0 = λ l. HoldsFrame c.stream new l first in (
       v_is,
       stands-with q2 q3 c now r place new is least before place_is packet ssrc window greatest_is items

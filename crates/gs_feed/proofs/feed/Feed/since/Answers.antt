@@ -3,7 +3,7 @@ use Rattle.std.specs.Arc.{arc_value}
 use Rattle.std.proofs.lemmas.List.{length-map}
 use Rattle.gs_tape.specs.Tick.{Tick}
 use Rattle.gs_tape.specs.Limits.{IsTickWithinLimits}
-use Rattle.gs_feed.specs.Feeding.{Feeding, IsSound}
+use Rattle.gs_feed.specs.Feeding.{Feeding, IsFeedSound}
 use Rattle.gs_feed.proofs.Slices.{IsSince, since_is, slice_numbers, slice_ticks, slice_of, slice_each}
 use Rattle.gs_feed.proofs.feed.Feed.since.Goals as goal
 
@@ -13,7 +13,7 @@ returns c =
     let items = c.deref.result.now in
     let start = c.min-start.result in
     let newest = c.saturating_sub-newest.result in
-    let sound : IsSound feed = subst IsSound c.self.view_is c.self.invariant in
+    let sound : IsFeedSound feed = subst IsFeedSound c.self.view_is c.self.invariant in
     let is : map arc_value items ≡ feed.kept = ap (map arc_value) c.deref.ensures.value ∙ ap (λ (f : Feeding). f.kept) c.self.view_is in
     let many : length items ≡ length feed.kept = sym (length-map items arc_value) ∙ ap (λ (l : List Tick). length l) is in
     let since : IsSince feed c.args.last start (newest - start) =

@@ -2,7 +2,8 @@ use Rattle.std.proofs.Common.{◌≡◌, ◌≤◌, ◌+◌, ◌-◌, ◌++◌, 
 use borrow.Rule.Slice.PartMut.{put_mid}
 use Rattle.std.specs.List.{concat}
 use Rattle.std.proofs.lemmas.Slice.{take-put_mid}
-use Rattle.gs_generated.proofs.Moving.{moved, rest_whole}
+use Rattle.std.proofs.lemmas.List.{take_rest}
+use Rattle.gs_generated.proofs.Moving.{moved}
 use Rattle.gs_generated.proofs.parts.Parts.move_part.Goals as goal
 
 pub returns-clause-moved : goal.returns-clause-moved
@@ -12,7 +13,7 @@ returns-clause-moved c =
     let front = take c.args.count c.args.into.now in
     let rest = concat c.args.self.now.more.items in
     let out : c.copy_from_slice.new.self ≡ take n (drop at c.args.self.now.part) =
-    c.copy_from_slice.ensures.after ∙ ap (λ (l : List ℕ). take n l) (rest_whole c.as_bytes.result.now at
+    c.copy_from_slice.ensures.after ∙ ap (λ (l : List ℕ). take n l) (take_rest c.as_bytes.result.now at
     ∙ ap (λ (l : List ℕ). drop at l) c.as_bytes.ensures) in
     let k = c.args.count + n - c.args.count in
     let behind = drop c.args.count c.args.into.now in

@@ -6,14 +6,14 @@ use Rattle.gs_refs.specs.Answers.{ask_answer}
 use Rattle.gs_split.specs.Splitting.{next_count}
 use Rattle.gs_host_core.specs.declared.act.Act.TheVariants as act
 use Rattle.gs_host_core.specs.Acts.{answer_with, ask_told, history_behind}
-use Rattle.gs_host_core.specs.Hosting.{Hosting, IsSound, StandsOver}
+use Rattle.gs_host_core.specs.Hosting.{Hosting, IsHostingSound, StandsOver}
 use Rattle.gs_host_core.proofs.Lists.{err-same}
 use Rattle.gs_host_core.proofs.Acted.{ask-done, ask-refused, asked-behind, ended-behind, sound-quiet, stands-quiet}
 use Rattle.gs_host_core.proofs.host.Host.ask_idr.Goals as goal
 
 pub invariant_of-self : goal.invariant_of-self
 invariant_of-self c =
-    subst (λ (h : List Entry). IsSound c.self.inside.splitter.settings h c.self.inside.audio) (sym c.reserve.ensures.history) c.self.invariant
+    subst (λ (h : List Entry). IsHostingSound c.self.inside.splitter.settings h c.self.inside.audio) (sym c.reserve.ensures.history) c.self.invariant
 
 pub returns-in_err-reserve-clause-told : goal.returns-in_err-reserve-clause-told
 returns-in_err-reserve-clause-told c =
@@ -42,7 +42,7 @@ invariant_of-self-in_err-ask_idr c =
     let behind : now ≡ history_behind h act.AskIdr =
     ended-behind h now (ask-refused h c.in_err-ask_idr.field-0.0 c.in_err-ask_idr.ensures.answer) c.in_err-ask_idr.ensures.err in
     sound-quiet it.splitter.settings h now it.audio act.AskIdr behind
-    (subst (λ (x : List Entry). IsSound it.splitter.settings x it.audio) (sym c.reserve.ensures.history) c.self.invariant)
+    (subst (λ (x : List Entry). IsHostingSound it.splitter.settings x it.audio) (sym c.reserve.ensures.history) c.self.invariant)
 
 pub returns-in_err-ask_idr-clause-told : goal.returns-in_err-ask_idr-clause-told
 returns-in_err-ask_idr-clause-told c =
@@ -86,7 +86,7 @@ invariant_of-self-2 c =
     let behind : now ≡ history_behind h act.AskIdr =
     asked-behind h now (ask-done h c.in_ok-ask_idr.ensures.answer) c.in_ok-ask_idr.ensures.ok in
     sound-quiet it.splitter.settings h now it.audio act.AskIdr behind
-    (subst (λ (x : List Entry). IsSound it.splitter.settings x it.audio) (sym c.reserve.ensures.history) c.self.invariant)
+    (subst (λ (x : List Entry). IsHostingSound it.splitter.settings x it.audio) (sym c.reserve.ensures.history) c.self.invariant)
 
 pub returns-clause-told : goal.returns-clause-told
 returns-clause-told c =

@@ -7,14 +7,15 @@ use Rattle.gs_refs.specs.Choice.{IsLegal}
 use Rattle.gs_refs.specs.Answers.{choose_answer, next_sent, sent_entry}
 use Rattle.gs_split.specs.Splitting.{next_count}
 use Rattle.gs_host_core.specs.Errors.{turn_result}
-use Rattle.gs_host_core.specs.Hosting.{Hosting, IsSound}
-use Rattle.gs_host_core.proofs.Lists.{err-same, when_err}
+use Rattle.gs_host_core.specs.Hosting.{Hosting, IsHostingSound}
+use Rattle.gs_bytes.proofs.Cases.{on_err}
+use Rattle.gs_host_core.proofs.Lists.{err-same}
 use Rattle.gs_host_core.proofs.Chosen.{chosen-above, sound-sent}
 use Rattle.gs_host_core.proofs.host.Host.choose.Goals as goal
 
 pub invariant_of-self : goal.invariant_of-self
 invariant_of-self c =
-    subst (λ (h : List Entry). IsSound c.self.inside.splitter.settings h c.self.inside.audio) (sym c.reserve.ensures.history) c.self.invariant
+    subst (λ (h : List Entry). IsHostingSound c.self.inside.splitter.settings h c.self.inside.audio) (sym c.reserve.ensures.history) c.self.invariant
 
 pub returns-in_err-reserve-clause-answer : goal.returns-in_err-reserve-clause-answer
 returns-in_err-reserve-clause-answer c =
@@ -30,11 +31,11 @@ returns-in_err-reserve-clause-err c =
     let it = c.self.inside in
     let view : List Entry → Hosting =
     λ h. record { settings = it.splitter.settings; history = h; count = next_count it.splitter; audio = it.audio } in
-    when_err c.from_residual.result (view c.reserve.new.self.history ≡ c.args.self.now) (ap view c.reserve.ensures.history ∙ c.self.view_is)
+    on_err c.from_residual.result (view c.reserve.new.self.history ≡ c.args.self.now) (ap view c.reserve.ensures.history ∙ c.self.view_is)
 
 pub invariant_of-self-in_err-choose : goal.invariant_of-self-in_err-choose
 invariant_of-self-in_err-choose c =
-    subst (λ (h : List Entry). IsSound c.self.inside.splitter.settings h c.self.inside.audio)
+    subst (λ (h : List Entry). IsHostingSound c.self.inside.splitter.settings h c.self.inside.audio)
     (sym (c.in_err-choose.ensures.err ∙ c.reserve.ensures.history)) c.self.invariant
 
 pub returns-in_err-choose-clause-answer : goal.returns-in_err-choose-clause-answer
@@ -55,7 +56,7 @@ returns-in_err-choose-clause-err c =
     let it = c.self.inside in
     let view : List Entry → Hosting =
     λ h. record { settings = it.splitter.settings; history = h; count = next_count it.splitter; audio = it.audio } in
-    when_err c.from_residual-in_err-choose.result (view c.choose.new.self.history ≡ c.args.self.now)
+    on_err c.from_residual-in_err-choose.result (view c.choose.new.self.history ≡ c.args.self.now)
     (ap view (c.in_err-choose.ensures.err ∙ c.reserve.ensures.history) ∙ c.self.view_is)
 
 pub invariant_of-self-2 : goal.invariant_of-self-2
@@ -70,7 +71,7 @@ invariant_of-self-2 c =
     c.in_ok-choose.ensures.ok
     ∙ ap (λ (s : Sent). sent_entry s ∷ c.reserve.new.self.history) c.in_ok-choose.ensures.sent
     ∙ ap (λ (x : List Entry). sent_entry (next_sent x n) ∷ x) kept in
-    subst (λ (x : List Entry). IsSound it.splitter.settings x it.audio) (sym now)
+    subst (λ (x : List Entry). IsHostingSound it.splitter.settings x it.audio) (sym now)
     (sound-sent it.splitter.settings h it.audio n above c.requires c.self.invariant)
 
 pub returns-clause-answer : goal.returns-clause-answer

@@ -8,14 +8,14 @@ use Rattle.gs_split.specs.Splitting.{next_count}
 use Rattle.gs_host_core.specs.declared.act.Act.{Act}
 use Rattle.gs_host_core.specs.declared.act.Act.TheVariants as act
 use Rattle.gs_host_core.specs.Acts.{answer_with, history_behind, range_told}
-use Rattle.gs_host_core.specs.Hosting.{Hosting, IsSound, StandsOver}
+use Rattle.gs_host_core.specs.Hosting.{Hosting, IsHostingSound, StandsOver}
 use Rattle.gs_host_core.proofs.Lists.{err-same}
 use Rattle.gs_host_core.proofs.Acted.{range-behind, same-act, same-range, sound-quiet, stands-quiet}
 use Rattle.gs_host_core.proofs.host.Host.invalidate.Goals as goal
 
 pub invariant_of-self : goal.invariant_of-self
 invariant_of-self c =
-    subst (λ (h : List Entry). IsSound c.self.inside.splitter.settings h c.self.inside.audio) (sym c.reserve.ensures.history) c.self.invariant
+    subst (λ (h : List Entry). IsHostingSound c.self.inside.splitter.settings h c.self.inside.audio) (sym c.reserve.ensures.history) c.self.invariant
 
 pub returns-in_err-reserve-clause-told : goal.returns-in_err-reserve-clause-told
 returns-in_err-reserve-clause-told c =
@@ -45,7 +45,7 @@ invariant_of-self-in_err-invalidate c =
     range-behind h now c.args.first c.args.last (to_z-of_z w64 c.args.first c.ranges.first) (to_z-of_z w64 c.args.last c.ranges.last)
     c.in_err-invalidate.ensures.unchanged c.in_err-invalidate.ensures.named in
     sound-quiet it.splitter.settings h now it.audio (act.Invalidate c.args.first c.args.last) behind
-    (subst (λ (x : List Entry). IsSound it.splitter.settings x it.audio) (sym c.reserve.ensures.history) c.self.invariant)
+    (subst (λ (x : List Entry). IsHostingSound it.splitter.settings x it.audio) (sym c.reserve.ensures.history) c.self.invariant)
 
 pub returns-in_err-invalidate-clause-told : goal.returns-in_err-invalidate-clause-told
 returns-in_err-invalidate-clause-told c =
@@ -94,7 +94,7 @@ invariant_of-self-2 c =
     range-behind h now c.args.first c.args.last (to_z-of_z w64 c.args.first c.ranges.first) (to_z-of_z w64 c.args.last c.ranges.last)
     c.invalidate.ensures.unchanged c.invalidate.ensures.named in
     sound-quiet it.splitter.settings h now it.audio (act.Invalidate c.args.first c.args.last) behind
-    (subst (λ (x : List Entry). IsSound it.splitter.settings x it.audio) (sym c.reserve.ensures.history) c.self.invariant)
+    (subst (λ (x : List Entry). IsHostingSound it.splitter.settings x it.audio) (sym c.reserve.ensures.history) c.self.invariant)
 
 pub returns-clause-told : goal.returns-clause-told
 returns-clause-told c =

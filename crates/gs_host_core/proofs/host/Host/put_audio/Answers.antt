@@ -10,9 +10,9 @@ use Rattle.gs_refs.specs.Answers.{next_sent, sent_entry}
 use Rattle.gs_audio.specs.Sending.{Sending, HasPushed}
 use Rattle.gs_stream.specs.Audio.{audio_units, audio_stream}
 use Rattle.gs_host_core.specs.Hosting.{Hosting}
-use Rattle.gs_host_core.specs.Puts.{Gains, GainsFront, PutsAll, PutsFront, told}
+use Rattle.gs_host_core.specs.Puts.{Gains, GainsFront, PutsAll, PutsFront, link_told}
 use Rattle.gs_host_core.specs.Sounds.{sound_behind}
-use Rattle.gs_host_core.proofs.Lists.{when_err}
+use Rattle.gs_bytes.proofs.Cases.{on_err}
 use Rattle.gs_host_core.proofs.Turns.{pushed-gain}
 use Rattle.gs_host_core.proofs.Gained.{audio-whole, audio-first, audio-last}
 use Rattle.gs_host_core.proofs.host.Host.put_audio.Goals as goal
@@ -54,14 +54,14 @@ returns-in_err-put_ticks-clause-count g c = ap (λ (h : Hosting). h.count) c.sel
 pub returns-in_err-put_ticks-clause-front : goal.returns-in_err-put_ticks-clause-front
 returns-in_err-put_ticks-clause-front g c = λ ticks h turn.
     let n = c.args.newest.now in
-    let a = told g.L.Link c.args.audio.now in
-    let b = told g.L.Link c.put_ticks.new.link in
+    let a = link_told g.L.Link c.args.audio.now in
+    let b = link_told g.L.Link c.put_ticks.new.link in
     let P : Hosting → Type 0 = λ v. HasPushed v.audio (audio_units ticks h)
     → OnErr c.from_residual.result (GainsFront a b c.args.to (audio_stream v.settings ticks h)
     (audio_stream v.settings ticks (sent_entry (next_sent h n) ∷ h))) in
     let s = c.self.inside.splitter.settings in
     subst P c.self.view_is
-    (λ pushed. when_err c.from_residual.result (GainsFront a b c.args.to (audio_stream s ticks h) (audio_stream s ticks (sent_entry (next_sent h n) ∷ h)))
+    (λ pushed. on_err c.from_residual.result (GainsFront a b c.args.to (audio_stream s ticks h) (audio_stream s ticks (sent_entry (next_sent h n) ∷ h)))
     (audio-first s ticks h n c.args.between.now arc_value turn a b c.args.to
     (subst (λ (x : StreamSettings). PutsFront a b c.args.to (sound_behind x (audio_units ticks h) (flat_map (λ t. t.value.audio) c.args.between.now)))
     c.self.invariant.same_settings (c.in_err-put_ticks.ensures.front (audio_units ticks h) pushed))))
@@ -119,9 +119,9 @@ returns-clause-pushed g c = λ ticks h turn pushed.
 pub returns-clause-whole : goal.returns-clause-whole
 returns-clause-whole g c = λ ticks h turn.
     let n = c.args.newest.now in
-    let a = told g.L.Link c.args.audio.now in
-    let b = told g.L.Link c.put_ticks.new.link in
-    let d = told g.L.Link c.put_units.new.link in
+    let a = link_told g.L.Link c.args.audio.now in
+    let b = link_told g.L.Link c.put_ticks.new.link in
+    let d = link_told g.L.Link c.put_units.new.link in
     let s = c.self.inside.splitter.settings in
     let before = audio_units ticks h in
     let units = flat_map (λ t. t.value.audio) c.args.between.now in
@@ -141,9 +141,9 @@ returns-clause-whole g c = λ ticks h turn.
 pub returns-clause-front : goal.returns-clause-front
 returns-clause-front g c = λ ticks h turn.
     let n = c.args.newest.now in
-    let a = told g.L.Link c.args.audio.now in
-    let b = told g.L.Link c.put_ticks.new.link in
-    let d = told g.L.Link c.put_units.new.link in
+    let a = link_told g.L.Link c.args.audio.now in
+    let b = link_told g.L.Link c.put_ticks.new.link in
+    let d = link_told g.L.Link c.put_units.new.link in
     let s = c.self.inside.splitter.settings in
     let before = audio_units ticks h in
     let units = flat_map (λ t. t.value.audio) c.args.between.now in

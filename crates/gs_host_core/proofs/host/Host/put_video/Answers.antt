@@ -13,8 +13,8 @@ use Rattle.gs_frames.specs.ImageLaws.{IsWrittenKind}
 use Rattle.gs_split.specs.Splitting.{Splitting, IsLoaded, frame_behind, next_count}
 use Rattle.gs_stream.specs.Video.{video_stream}
 use Rattle.gs_host_core.specs.Units.{sent_unit_of}
-use Rattle.gs_host_core.specs.Hosting.{Hosting, IsSound}
-use Rattle.gs_host_core.specs.Puts.{Gains, GainsFront, PutsAll, PutsFront, told}
+use Rattle.gs_host_core.specs.Hosting.{Hosting, IsHostingSound}
+use Rattle.gs_host_core.specs.Puts.{Gains, GainsFront, PutsAll, PutsFront, link_told}
 use Rattle.gs_host_core.proofs.Turns.{unit-there, video-gain, count-gain}
 use Rattle.gs_host_core.proofs.Gained.{video-whole, video-part, unit-most}
 use Rattle.gs_host_core.proofs.host.Host.put_video.Goals as goal
@@ -58,7 +58,7 @@ pub invariant_of-self : goal.invariant_of-self
 invariant_of-self g c =
     let same : c.put_frame.new.splitter.settings ≡ c.self.inside.splitter.settings =
     ap (λ (s : Splitting). s.settings) c.put_frame.ensures.kept ∙ c.load-datagrams.ensures.settings in
-    subst (λ (s : StreamSettings). IsSound s c.self.inside.refs.history c.self.inside.audio) (sym same) c.self.invariant
+    subst (λ (s : StreamSettings). IsHostingSound s c.self.inside.refs.history c.self.inside.audio) (sym same) c.self.invariant
 
 pub returns-clause-settings : goal.returns-clause-settings
 returns-clause-settings g c =
@@ -103,8 +103,8 @@ returns-clause-whole g c = λ ticks h sends.
     let sent = c.args.sent.now in
     let n = c.args.newest.now in
     let unit = c.unit_of-unit.result.now in
-    let a = told g.L.Link c.args.video.now in
-    let b = told g.L.Link c.put_frame.new.link in
+    let a = link_told g.L.Link c.args.video.now in
+    let b = link_told g.L.Link c.put_frame.new.link in
     let old = video_stream s ticks h in
     let out = frame_behind (length old) sent.frame sent.kind n.time unit in
     let P : Hosting → Type 0 = λ v. length (video_stream v.settings ticks h) % 2 ^ 32 ≡ v.count
@@ -126,8 +126,8 @@ returns-clause-front g c = λ ticks h sends.
     let sent = c.args.sent.now in
     let n = c.args.newest.now in
     let unit = c.unit_of-unit.result.now in
-    let a = told g.L.Link c.args.video.now in
-    let b = told g.L.Link c.put_frame.new.link in
+    let a = link_told g.L.Link c.args.video.now in
+    let b = link_told g.L.Link c.put_frame.new.link in
     let old = video_stream s ticks h in
     let out = frame_behind (length old) sent.frame sent.kind n.time unit in
     let P : Hosting → Type 0 = λ v. length (video_stream v.settings ticks h) % 2 ^ 32 ≡ v.count

@@ -11,9 +11,10 @@ use Rattle.gs_stream.specs.Video.{video_stream}
 use Rattle.gs_stream.specs.Audio.{audio_stream}
 use Rattle.gs_host_core.specs.Errors.{IsCountedTurn}
 use Rattle.gs_host_core.specs.Hosting.{Hosting, IsSendable, SendsTick}
-use Rattle.gs_host_core.specs.Puts.{told}
+use Rattle.gs_host_core.specs.Puts.{link_told}
 use Rattle.gs_host_core.specs.Turning.{IsSentInPart}
-use Rattle.gs_host_core.proofs.Lists.{err-same, if-failed, on-failed, when_err}
+use Rattle.gs_bytes.proofs.Cases.{on_err}
+use Rattle.gs_host_core.proofs.Lists.{err-same, if-failed, on-failed}
 use Rattle.gs_host_core.proofs.Gained.{audio-none, gains-front, gains-nothing}
 use Rattle.gs_host_core.proofs.Failing.{counted-audio, counted-none, counted-video, handed-on, link-answer, refused-no_fault, sent-not_refused}
 use Rattle.gs_host_core.proofs.Turned.{agrees, audio-front, audio-gains, few-are, history-is, is-turn, pushes, sizes-are, stands-again, video-front}
@@ -67,9 +68,9 @@ returns-in_err-sent-clause-part g c = λ ticks of stands.
     let h = c.args.self.now.history in
     let now = c.choose.new.self.history in
     let same : now ≡ h = ap (λ (v : Hosting). v.history) c.in_err-sent.ensures.err in
-    let v = told g.L.Link c.args.video.now in
-    let a = told g.L.Link c.args.audio.now in
-    when_err c.from_residual.result (IsSentInPart ticks c.args.self.now c.choose.new.self c.args.video_to c.args.audio_to v v a a)
+    let v = link_told g.L.Link c.args.video.now in
+    let a = link_told g.L.Link c.args.audio.now in
+    on_err c.from_residual.result (IsSentInPart ticks c.args.self.now c.choose.new.self c.args.video_to c.args.audio_to v v a a)
     (record {
       of_video = gains-nothing v c.args.video_to (video_stream s ticks h) (video_stream s ticks now) (ap (video_stream s ticks) same);
       of_audio = gains-nothing a c.args.audio_to (audio_stream s ticks h) (audio_stream s ticks now) (ap (audio_stream s ticks) same);
@@ -134,12 +135,12 @@ returns-in_err-put_video-clause-part g c = λ ticks of stands.
     let s2 = c.put_video.new.self in
     let ok = c.in_ok-sent.ensures.ok in
     let is = c.in_ok-sent.ensures.sent in
-    let v = told g.L.Link c.args.video.now in
-    let w = told g.L.Link c.put_video.new.video in
-    let a = told g.L.Link c.args.audio.now in
+    let v = link_told g.L.Link c.args.video.now in
+    let w = link_told g.L.Link c.put_video.new.video in
+    let a = link_told g.L.Link c.args.audio.now in
     let now = history-is n sent old s1 ok is s2 c.put_video.ensures.history in
     let turn = is-turn ticks old.history n c.args.between.now arc_value of c.requires.numbers c.in_ok-sent.ensures.above in
-    when_err c.from_residual-in_err-put_video.result (IsSentInPart ticks old s2 c.args.video_to c.args.audio_to v w a a)
+    on_err c.from_residual-in_err-put_video.result (IsSentInPart ticks old s2 c.args.video_to c.args.audio_to v w a a)
     (record {
       of_video = video-front n sent old s1 ok is ticks s2.history v w c.args.video_to now
           (c.in_err-put_video.ensures.front ticks old.history (record { newest_is = of.newest_is; sent_is = is })
@@ -220,14 +221,14 @@ returns-in_err-put_audio-clause-part g c = λ ticks of stands.
     let s3 = c.put_audio.new.self in
     let ok = c.in_ok-sent.ensures.ok in
     let is = c.in_ok-sent.ensures.sent in
-    let v = told g.L.Link c.args.video.now in
-    let w = told g.L.Link c.put_video.new.video in
-    let a = told g.L.Link c.args.audio.now in
-    let b = told g.L.Link c.put_audio.new.audio in
+    let v = link_told g.L.Link c.args.video.now in
+    let w = link_told g.L.Link c.put_video.new.video in
+    let a = link_told g.L.Link c.args.audio.now in
+    let b = link_told g.L.Link c.put_audio.new.audio in
     let now = history-is n sent old s1 ok is s3 (c.put_audio.ensures.history ∙ c.put_video.ensures.history) in
     let turn = is-turn ticks old.history n c.args.between.now arc_value of c.requires.numbers c.in_ok-sent.ensures.above in
     let settings : s2.settings ≡ old.settings = c.put_video.ensures.settings ∙ ap (λ (x : Hosting). x.settings) ok in
-    when_err c.from_residual-in_err-put_audio.result (IsSentInPart ticks old s3 c.args.video_to c.args.audio_to v w a b)
+    on_err c.from_residual-in_err-put_audio.result (IsSentInPart ticks old s3 c.args.video_to c.args.audio_to v w a b)
     (record {
       of_video = gains-front v w c.args.video_to (video_stream old.settings ticks old.history) (video_stream old.settings ticks s3.history)
           (video-gains n sent old s1 ok is ticks s3.history v w c.args.video_to now
@@ -274,10 +275,10 @@ returns-clause-whole g c = λ ticks of stands.
     let s3 = c.put_audio.new.self in
     let ok = c.in_ok-sent.ensures.ok in
     let is = c.in_ok-sent.ensures.sent in
-    let v = told g.L.Link c.args.video.now in
-    let w = told g.L.Link c.put_video.new.video in
-    let a = told g.L.Link c.args.audio.now in
-    let b = told g.L.Link c.put_audio.new.audio in
+    let v = link_told g.L.Link c.args.video.now in
+    let w = link_told g.L.Link c.put_video.new.video in
+    let a = link_told g.L.Link c.args.audio.now in
+    let b = link_told g.L.Link c.put_audio.new.audio in
     let now = history-is n sent old s1 ok is s3 (c.put_audio.ensures.history ∙ c.put_video.ensures.history) in
     let turn = is-turn ticks old.history n c.args.between.now arc_value of c.requires.numbers c.in_ok-sent.ensures.above in
     let settings : s2.settings ≡ old.settings = c.put_video.ensures.settings ∙ ap (λ (x : Hosting). x.settings) ok in

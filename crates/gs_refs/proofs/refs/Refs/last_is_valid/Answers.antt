@@ -1,7 +1,7 @@
 use Rattle.std.proofs.Common.{◌≡◌, ◌≤◌, ◌∙◌, List, Option, reverse, ap, subst, arith}
 use Rattle.gs_refs.specs.declared.entry.Entry.{Entry}
 use Rattle.gs_refs.specs.Answers.{References}
-use Rattle.gs_refs.specs.Candidates.{Kept}
+use Rattle.gs_refs.specs.Candidates.{KeptCandidates}
 use Rattle.gs_refs.specs.History.{frames, is_valid}
 use Rattle.gs_refs.specs.Standing.{KeepsCandidates}
 use Rattle.gs_refs.proofs.ValidAbove.{last-valid}
@@ -14,6 +14,6 @@ returns-in-Some c =
     let count = c.self.invariant.count in
     let seen = ap (λ (r : References). frames r.history) c.self.view_is in
     let least : 1 ≤ it.frames = omega (arith, seen, count, c.requires) in
-    let keeps = subst (λ (o : Option Kept). KeepsCandidates h o) c.in-Some.is c.self.invariant.kept in
+    let keeps = subst (λ (o : Option KeptCandidates). KeepsCandidates h o) c.in-Some.is c.self.invariant.kept in
     subst (λ (r : References). c.reaches.result ≡ is_valid r.history (frames r.history)) c.self.view_is
     (c.reaches.ensures ∙ last-valid h c.in-Some.candidates it.frames keeps least count ∙ ap (is_valid h) count)

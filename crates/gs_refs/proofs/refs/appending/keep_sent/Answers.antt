@@ -1,6 +1,6 @@
 use Rattle.std.proofs.Common.{◌≡◌, ℕ, ◌∷◌, Option, sym, subst, arith}
 use Rattle.gs_refs.specs.declared.entry.Entry.TheVariants as entry
-use Rattle.gs_refs.specs.Candidates.{Kept, KeepsValid}
+use Rattle.gs_refs.specs.Candidates.{KeptCandidates, KeepsValid}
 use Rattle.gs_refs.specs.Standing.{KeepsCandidates}
 use Rattle.gs_refs.proofs.refs.appending.keep_sent.Goals as goal
 
@@ -12,4 +12,5 @@ returns-then-sent-eq2-clause-keeps c h e keeps =
 
 pub returns-else-sent-eq2-clause-keeps : goal.returns-else-sent-eq2-clause-keeps
 returns-else-sent-eq2-clause-keeps c h e keeps =
-    c.push.ensures h c.args.sent.kind c.args.sent.reference c.if-sent-eq2.false e (subst (λ (o : Option Kept). KeepsCandidates h o) c.in-Some.is keeps)
+    c.push.ensures h c.args.sent.kind c.args.sent.reference c.if-sent-eq2.false e
+    (subst (λ (o : Option KeptCandidates). KeepsCandidates h o) c.in-Some.is keeps)

@@ -9,13 +9,9 @@ use Rattle.gs_split.specs.declared.placed.PlacedBlock.{PlacedBlock}
 use Rattle.gs_split.specs.Plans.{blocks_of}
 use Rattle.gs_split.specs.Places.{IsPlaced}
 use Rattle.gs_split.specs.Loaded.{IsPlanned, covered_at, payload_at, data_shard_at}
-use Rattle.gs_split.proofs.PlannedFrames.{limits_of, planned-total, is_block_of_frame, IsBlockOfFrame}
+use Rattle.gs_split.proofs.PlannedFrames.{limits_of, planned-total, facts_of}
 use Rattle.gs_split.proofs.Carried.{bare-of_zero, parity-of_some, covered-read, data_shard-of_block, kept-at}
 use Rattle.gs_split.proofs.frame.LoadedFrame.put_payload.Goals as goal
-
-facts_of : (settings : Settings) (f : LoadedFrame) (b : PlacedBlock) → IsPlanned (numbers_of settings) f → IsPlaced (blocks_of f.plan) b
-    → IsBlockOfFrame (numbers_of settings) f b
-facts_of settings f b planned placed = is_block_of_frame (numbers_of settings) f b (limits_of settings) planned placed
 
 -- without parity it is a data shard
 is_data : (settings : Settings) (f : LoadedFrame) (b : PlacedBlock) (index : ℕ) → IsPlanned (numbers_of settings) f → IsPlaced (blocks_of f.plan) b

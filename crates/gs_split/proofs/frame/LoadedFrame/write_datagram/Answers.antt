@@ -1,22 +1,14 @@
 use Rattle.std.proofs.Common.{◌≡◌, ◌≤◌, ◌+◌, ◌-◌, ◌++◌, ℕ, List, [], Some, length, take, drop, refl, ap, ◌∙◌, sym, subst, arith}
 use Rattle.std.proofs.lemmas.List.{length-drop, length-take-le}
-use Rattle.gs_rtp.specs.declared.settings.Settings.{Settings}
 use Rattle.gs_rtp.specs.Stream.{numbers_of}
 use Rattle.gs_rtp.specs.Video.{IsVideoHead, video_header}
 use Rattle.gs_frames.specs.Shards.{covered_header}
 use Rattle.gs_frames.proofs.PlanLimits.{shards-lt}
-use Rattle.gs_split.specs.declared.frame.LoadedFrame.{LoadedFrame}
-use Rattle.gs_split.specs.declared.placed.PlacedBlock.{PlacedBlock}
-use Rattle.gs_split.specs.Plans.{blocks_of}
-use Rattle.gs_split.specs.Places.{IsPlaced, placed_plan}
-use Rattle.gs_split.specs.Loaded.{IsPlanned, header_of}
-use Rattle.gs_split.proofs.PlannedFrames.{limits_of, planned-blocks, is_block_of_frame, IsBlockOfFrame}
+use Rattle.gs_split.specs.Places.{placed_plan}
+use Rattle.gs_split.specs.Loaded.{header_of}
+use Rattle.gs_split.proofs.PlannedFrames.{limits_of, planned-blocks, facts_of}
 use Rattle.gs_split.proofs.Carried.{covered-read, datagram-at, head-in_grammar, datagram-written}
 use Rattle.gs_split.proofs.frame.LoadedFrame.write_datagram.Goals as goal
-
-facts_of : (settings : Settings) (f : LoadedFrame) (b : PlacedBlock) → IsPlanned (numbers_of settings) f → IsPlaced (blocks_of f.plan) b
-    → IsBlockOfFrame (numbers_of settings) f b
-facts_of settings f b planned placed = is_block_of_frame (numbers_of settings) f b (limits_of settings) planned placed
 
 pub block_of-block-requires-clause-few : goal.block_of-block-requires-clause-few
 block_of-block-requires-clause-few c = (planned-blocks (numbers_of c.args.settings.now) c.args.self.now (limits_of c.args.settings.now) c.requires.planned).1

@@ -2,7 +2,7 @@ use Rattle.std.proofs.Common.{◌≡◌, ◌*◌, ℕ, length, take, drop, sym, 
 use Rattle.std.proofs.lemmas.List.{length-take-le, take_at}
 use Rattle.gs_rtp.specs.Stream.{numbers_of}
 use Rattle.gs_frames.specs.Datagrams.{frame_shards}
-use Rattle.gs_split.specs.Loaded.{outgoing}
+use Rattle.gs_split.specs.Loaded.{loaded_outgoing}
 use Rattle.gs_split.proofs.WrittenFrames.{frame-length}
 use Rattle.gs_split.proofs.frame.LoadedFrame.write_front.Goals as goal
 
@@ -11,7 +11,7 @@ returns c =
     let settings = c.args.settings.now in
     let s = numbers_of settings in
     let f = c.args.self.now in
-    let out = outgoing f c.args.unit.now in
+    let out = loaded_outgoing f c.args.unit.now in
     let kept = c.args.kept.now in
     let size = f.datagrams * c.from.result in
     let same : size ≡ f.datagrams * settings.packet = ap (λ (n : ℕ). f.datagrams * n) c.from.ensures in

@@ -11,13 +11,9 @@ use Rattle.gs_split.specs.Plans.{blocks_of}
 use Rattle.gs_split.specs.Places.{IsPlaced, block_end, datagrams_before}
 use Rattle.gs_split.specs.Loaded.{IsPlanned}
 use Rattle.gs_split.proofs.FrameShards.{laid}
-use Rattle.gs_split.proofs.PlannedFrames.{limits_of, planned-blocks, is_block_of_frame, IsBlockOfFrame}
+use Rattle.gs_split.proofs.PlannedFrames.{limits_of, planned-blocks, facts_of}
 use Rattle.gs_split.proofs.WrittenFrames.{length-part, laid-block, frame-laid}
 use Rattle.gs_split.proofs.frame.LoadedFrame.write_shards.Goals as goal
-
-facts_of : (settings : Settings) (f : LoadedFrame) (b : PlacedBlock) → IsPlanned (numbers_of settings) f → IsPlaced (blocks_of f.plan) b
-    → IsBlockOfFrame (numbers_of settings) f b
-facts_of settings f b planned placed = is_block_of_frame (numbers_of settings) f b (limits_of settings) planned placed
 
 -- the block's part ends within the room
 ends_within : (settings : Settings) (f : LoadedFrame) (b : PlacedBlock) (end p room : ℕ) → IsPlanned (numbers_of settings) f

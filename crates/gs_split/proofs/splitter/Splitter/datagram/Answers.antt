@@ -3,7 +3,7 @@ use Rattle.std.specs.List.{slice_get}
 use Rattle.gs_rtp.specs.Stream.{numbers_of}
 use Rattle.gs_frames.specs.Datagrams.{OutgoingFrame, frame_shards, frame_datagrams}
 use Rattle.gs_split.specs.Splitting.{Splitting, IsLoaded, KeepsShards, has_parity_at}
-use Rattle.gs_split.specs.Loaded.{outgoing}
+use Rattle.gs_split.specs.Loaded.{loaded_outgoing}
 use Rattle.gs_split.proofs.CountsAgree.{same-shards, same-datagrams, keeps-same}
 use Rattle.gs_split.proofs.splitter.Splitter.datagram.Goals as goal
 
@@ -16,7 +16,7 @@ returns-clause-datagram c =
     → slice_get (frame_datagrams v.settings sent) c.args.k ≡ Some (take (16 + c.from.result) c.write_datagram.new.out))
     c.self.view_is
     (λ sent loaded unit_is.
-    let out = outgoing f unit in
+    let out = loaded_outgoing f unit in
     let same : frame_shards s sent ≡ frame_shards s out =
     same-shards s sent out (omega (arith, loaded.count_agrees)) (sym loaded.frame_is) (sym loaded.kind_is) (sym loaded.time_is) unit_is in
     let length_is : f.unit_length ≡ length sent.unit = loaded.unit_length_is in

@@ -2,7 +2,7 @@ use Rattle.std.proofs.Common.{◌≡◌, ◌+◌, ◌%◌, ◌^◌, ◌∙◌, �
 use Rattle.gs_rtp.specs.Stream.{numbers_of}
 use Rattle.gs_frames.specs.Datagrams.{frame_shards, frame_datagrams}
 use Rattle.gs_split.specs.Splitting.{Splitting, frame_behind, has_parity_at, next_count}
-use Rattle.gs_split.specs.Loaded.{outgoing}
+use Rattle.gs_split.specs.Loaded.{loaded_outgoing}
 use Rattle.gs_split.proofs.CountsAgree.{same-shards, keeps-same}
 use Rattle.gs_split.proofs.WrittenFrames.{datagrams-length}
 use Rattle.gs_split.proofs.splitter.Splitter.load.Goals as goal
@@ -22,7 +22,7 @@ returns-clause-loaded c = λ count agrees.
     let f = c.plan-loaded.result in
     let unit = c.args.unit.now in
     let sent = frame_behind count c.args.frame c.args.kind c.args.time unit in
-    let out = outgoing f unit in
+    let out = loaded_outgoing f unit in
     let ensured = c.plan-loaded.ensures in
     let next : count % 2 ^ 32 ≡ (c.self.inside.loaded.count + c.self.inside.loaded.datagrams) % 2 ^ 32 =
     agrees ∙ ap next_count (sym c.self.view_is) in

@@ -1,7 +1,8 @@
 use Rattle.std.proofs.Common.{refl, sym, ap, ◌≡◌, Bool, true, false, not, ℕ}
 use Rattle.std.specs.Prelude.{◌==◌}
+use Rattle.gs_bytes.proofs.Cases.{not_zero}
 use Rattle.gs_tape.proofs.Streams.{fails, fails_read, fails_tested, fails_test, handed_on, reads_passed}
-use Rattle.gs_tape.proofs.StepReads.{not_zero, is_zero}
+use Rattle.gs_tape.proofs.StepReads.{is_zero}
 use Rattle.gs_tape.proofs.cursor.Cursor.last.Goals as goal
 
 pub returns-in_err-last-clause-read : goal.returns-in_err-last-clause-read

@@ -1,12 +1,15 @@
 use Rattle.std.proofs.Common.{arith, ◌≡◌, ◌+◌, ◌∷◌, ℕ, List, drop, Option, subst, sym}
 use Rattle.std.specs.Prelude.{slice_index}
 use Rattle.std.proofs.lemmas.List.{drop_all}
-use Rattle.gs_tape.proofs.Streams.{fails_read, fails_unknown, handed_on, leaves_on}
-use Rattle.gs_tape.proofs.ManySteps.{drop_next, text_cut, text_differs, text_done, text_more}
+use Rattle.gs_tape.proofs.Streams.{fails_read, handed_on, leaves_on}
+use Rattle.gs_tape.proofs.ManySteps.{drop_next, text_cut, text_differs, text_done, text_more, text_stops}
 use Rattle.gs_tape.proofs.cursor.Cursor.text.Goals as goal
 
 pub returns-in_err-byte-clause-read : goal.returns-in_err-byte-clause-read
-returns-in_err-byte-clause-read g c = handed_on c.from_residual.ensures.1 (fails_unknown c.in_err-byte.ensures.unknown)
+returns-in_err-byte-clause-read g c =
+    handed_on c.from_residual.ensures.1
+    (text_stops _ _ _ (drop_next c.loop-expected.expected-index c.args.bytes.now c.loop-expected-test.true) c.loop-expected.invariant.goes
+    c.in_err-byte.ensures.unknown c.in_err-byte.ensures.stopped)
 
 pub returns-in_default-clause-read : goal.returns-in_default-clause-read
 returns-in_default-clause-read g c =

@@ -1,8 +1,29 @@
 use Rattle.std.proofs.Common.{arith, ap, ◌≡◌, ◌+◌, ℕ}
-use Rattle.gs_tape.specs.Reading.{Before}
+use Rattle.gs_tape.specs.Reading.{Before, before_first}
 use Rattle.gs_tape.proofs.Streams.{fails}
 use Rattle.gs_tape.proofs.TapeReads.{first_behind, first_cut, first_end, first_failed, first_full, first_handed, first_other, first_tick}
+use Rattle.gs_tape.proofs.Cuts.{stops_end, stops_tag, stops_tick, takes_handed, takes_tick}
 use Rattle.gs_tape.proofs.tick_stream.Ticks.next.Goals as goal
+
+pub returns-in_err-tag-clause-takes : goal.returns-in_err-tag-clause-takes
+returns-in_err-tag-clause-takes g c =
+    takes_handed _ _ _ _ _ _ _ _ _ c.from_residual.ensures.1 (stops_tag _ 0 _ _ before_first _ _ _ c.in_err-tag.ensures.stopped)
+
+pub returns-in_err-byte-clause-takes : goal.returns-in_err-byte-clause-takes
+returns-in_err-byte-clause-takes g c =
+    takes_handed _ _ _ _ _ _ _ _ _ c.from_residual-in_err-byte.ensures.1
+    (stops_end _ 0 _ c.in-Some.tag _ before_first _ _ _ _ (rw c.in-Some.is at c.in_ok-tag.ensures.byte) c.if-tag-eq-END_TAG.true c.in_err-byte.ensures.stopped)
+
+pub returns-in_err-tick-clause-takes : goal.returns-in_err-tick-clause-takes
+returns-in_err-tick-clause-takes g c =
+    takes_handed _ _ _ _ _ _ _ _ _ c.from_residual-in_err-tick.ensures.1
+    (stops_tick _ 0 _ c.in-Some.tag _ before_first _ _ _ _ (rw c.in-Some.is at c.in_ok-tag.ensures.byte) c.if-tag-ne-TICK_TAG.false
+    c.if-self-gt-MOST_TICKS.false c.in_err-tick.ensures.read.front)
+
+pub returns-clause-takes : goal.returns-clause-takes
+returns-clause-takes g c =
+    takes_tick _ _ _ _ c.in-Some.tag _ _ _ _ _ _ (rw c.in-Some.is at c.in_ok-tag.ensures.byte) c.if-tag-ne-TICK_TAG.false c.if-self-gt-MOST_TICKS.false
+    (rw c.in-Some.is at c.in_ok-tag.ensures.place) c.in_ok-tick.ensures.read c.behind-self.ensures.known
 
 pub returns-in_default-clause-first : goal.returns-in_default-clause-first
 returns-in_default-clause-first g c = first_cut _ _ _ _ _ (rw c.in_default.is at c.in_ok-tag.ensures.none)
@@ -28,7 +49,7 @@ returns-then-self-gt-MOST_TICKS-clause-first g c =
 pub returns-in_err-tick-clause-first : goal.returns-in_err-tick-clause-first
 returns-in_err-tick-clause-first g c =
     first_handed _ _ _ _ c.from_residual-in_err-tick.ensures.1
-    (first_failed _ _ _ c.in-Some.tag _ _ _ _ _ (rw c.in-Some.is at c.in_ok-tag.ensures.byte) c.if-tag-ne-TICK_TAG.false c.if-self-gt-MOST_TICKS.false
+    (first_failed _ _ _ c.in-Some.tag _ _ _ _ _ _ (rw c.in-Some.is at c.in_ok-tag.ensures.byte) c.if-tag-ne-TICK_TAG.false c.if-self-gt-MOST_TICKS.false
     (rw c.in-Some.is at c.in_ok-tag.ensures.place) (fails c.in_err-tick.ensures.read))
 
 pub returns-clause-first : goal.returns-clause-first

@@ -3,10 +3,10 @@ use Rattle.gs_run.specs.Deed.{TakeVideo, Deed, In}
 use Rattle.gs_run.specs.Line.{videos}
 use Rattle.gs_loopback.specs.Running.{video_deeds}
 use Rattle.gs_trial.specs.Stepping.{RunsIn}
+use Rattle.gs_bytes.proofs.Cases.{on_ok}
 use Rattle.gs_trial.proofs.InSessions.{videos_are, videos_first}
 use Rattle.gs_trial.proofs.Acting.{runs_as, runs_nowhere}
 use Rattle.gs_trial.proofs.Keeping.{ready_sent}
-use Rattle.gs_trial.proofs.Results.{on_any}
 use Rattle.gs_trial.proofs.trial.Trial.deliver_videos.Goals as goal
 
 pub returns-in_err-place-clause-ran : goal.returns-in_err-place-clause-ran
@@ -29,6 +29,6 @@ returns-clause-ran c =
 
 pub returns-clause-ready : goal.returns-clause-ready
 returns-clause-ready c =
-    on_any c.allowed.result _
+    on_ok c.allowed.result _
     (ready_sent c.args.self.now _ c.in_ok-place.place c.index_mut.result.now c.deliver_videos.new.self refl refl
     c.in_ok-place.ensures.ok.1 c.index_mut.ensures.value c.in_ok-done.ensures.sent c.requires.ready)

@@ -3,9 +3,9 @@ use Rattle.gs_schedule.specs.declared.status.TrialStatus.{TrialStatus}
 use Rattle.gs_schedule.specs.declared.status.TrialStatus.TheVariants as status
 use Rattle.gs_run.specs.Run.{finished}
 use Rattle.gs_trial.specs.Running.{WritesBehind}
+use Rattle.gs_bytes.proofs.Cases.{from_ok}
 use Rattle.gs_trial.proofs.Leading.{front_of, same_stands}
-use Rattle.gs_trial.proofs.Results.{err_more, on_ok}
-use Rattle.std.proofs.lemmas.Result.{err_from_is_err_and}
+use Rattle.std.proofs.lemmas.Result.{err_from_is_err_and, IfErr-weaker}
 use Rattle.gs_trial.proofs.Stopped.{never_tape}
 use Rattle.gs_trial.proofs.Scripts.{finish_fails, finish_writes}
 use Rattle.gs_trial.proofs.Texts.{front_all}
@@ -16,7 +16,7 @@ returns-clause-finishes g c = λ file state stands.
     let old = c.args.self.now.reporter in
     let wrote = c.in_ok-write_text.ensures in
     let here = same_stands c.args.self.now c.write_text.new.self file _ state wrote.kept stands in
-    let sums = on_ok c.report_sums.result _ (sym c.is_err.ensures.value ∙ c.if-is_err.false) c.report_sums.ensures.sums in
+    let sums = from_ok c.report_sums.result _ (sym c.is_err.ensures.value ∙ c.if-is_err.false) c.report_sums.ensures.sums in
     finish_writes old c.write_text.new.self.reporter c.report_sums.new.self.reporter file.fault state _ _ (g.K.Outside.written c.write_text-2.new.out)
     c.write_text-2.result wrote.ok wrote.kept.detail wrote.empty (c.in_default.ensures.ends file.ticks file.fault here.feed.stands)
     (sums file.ticks state.sessions here.sessions)
@@ -48,4 +48,4 @@ pub returns-then-is_err-clause-at_rest : goal.returns-then-is_err-clause-at_rest
 returns-then-is_err-clause-at_rest g c = λ is. c.in_ok-write_text.ensures.ok
 
 pub returns-clause-at_rest : goal.returns-clause-at_rest
-returns-clause-at_rest g c = err_more c.write_text-2.result _ _ (λ answer cause is. never_tape answer _ cause is) c.write_text-2.ensures.cause
+returns-clause-at_rest g c = IfErr-weaker c.write_text-2.result _ _ (λ answer cause is. never_tape answer _ cause is) c.write_text-2.ensures.cause

@@ -2,14 +2,14 @@ use Rattle.std.proofs.Common.{◌≡◌, ℕ, List, [], ◌∷◌, ◌+◌, ◌�
 use Rattle.std.specs.List.{All}
 use Rattle.std.proofs.lemmas.List.Elements.{All-push}
 use Rattle.gs_tape.specs.Tick.{Tick}
-use Rattle.gs_rtp.specs.Settings.{AreNumbersOfSettings}
+use Rattle.gs_rtp.specs.Settings.{AreSettingsWithinLimits}
 use Rattle.gs_rtp.specs.Stream.{numbers_of}
 use Rattle.gs_frames.specs.Client.{ClientSettings, least_window, most_window}
 use Rattle.gs_host_end.specs.Outcomes.{KeepsTicks}
-use Rattle.gs_loopback.specs.Standing.{StandsFor as IsLoopbackOf}
+use Rattle.gs_loopback.specs.Standing.{IsLoopbackOf}
 use Rattle.gs_run.specs.Deed.{Open}
 use Rattle.gs_run.specs.Opening.{opened_part}
-use Rattle.gs_trial.proofs.NextSession.{all_settings, no_settings, no_window, opens, opens_not}
+use Rattle.gs_trial.proofs.NextSession.{all_settings, next_settings, no_settings, no_window, opens, opens_not}
 use Rattle.gs_trial.proofs.OneDeed.{unknown}
 use Rattle.gs_trial.proofs.trial.Trial.open.Goals as goal
 
@@ -54,7 +54,8 @@ returns-clause-ran c =
     let Made : ℕ → Type 0 = λ n. (ticks : List Tick) (d : ClientSettings) → d.stream ≡ numbers_of s → d.stream.ssrc ≡ n + 1 → d.window ≡ w.window
     → IsLoopbackOf c.in_ok-opened.opened (n + 1) ticks (opened_part (n + 1) old.moment d) in
     let number : c.len-2.result ≡ length items = omega arith in
-    let within : AreNumbersOfSettings c.args.packet c.args.percentage c.args.minimum 60 old.feed.tape.duration old.feed.tape.audio (length items + 1) =
+    let within : AreSettingsWithinLimits
+    (next_settings c.args.packet c.args.percentage c.args.minimum old.feed.tape.duration old.feed.tape.audio (length items + 1)) =
     is.within.0 refl in
     let test = all_settings c.args.packet c.args.percentage c.args.minimum c.args.window old.feed.tape.duration old.feed.tape.audio (length items + 1) within
     (subst (λ (k : ℕ). least_window ≤ k) w.ensures.some.0 w.ensures.some.1) (subst (λ (k : ℕ). k ≤ most_window) w.ensures.some.0 w.ensures.some.2) in

@@ -1,4 +1,5 @@
-use Rattle.std.proofs.Common.{◌≡◌, ◌<◌, ◌≤◌, ◌∙◌, refl, Result, Ok, Err, OnOk, length, sym, subst, arith}
+use Rattle.std.proofs.Common.{◌≡◌, ◌<◌, ◌≤◌, ◌∙◌, refl, length, sym, subst, arith}
+use Rattle.std.proofs.lemmas.Result.{on_ok_weaker}
 use Rattle.gs_trial.specs.Standing.{AreSessions}
 use Rattle.gs_trial.proofs.Sums.{sums_all, sums_more}
 use Rattle.gs_trial.proofs.trial.Trial.report_sums.Goals as goal
@@ -19,14 +20,10 @@ sessions-preserved c =
           (inv.sums ticks ss are) within c.index.ensures c.sums-sums.ensures c.in_ok-report.ensures.ok;
     }
 
-on_more : {T E : Type 0} (r : Result T E) (P Q : Type 0) → (P → Q) → OnOk r P → OnOk r Q
-on_more (Ok x) P Q f h = f h
-on_more (Err e) P Q f h = h
-
 pub returns-clause-sums : goal.returns-clause-sums
 returns-clause-sums c =
     let items = c.args.self.now.sessions.items in
     let past : length items ≤ c.sessions.place = omega arith in
-    on_more c.report-2.result _ _
+    on_ok_weaker c.report-2.result
     (λ done. λ ticks ss are. sums_all ticks c.sessions.place items ss c.args.self.now.reporter c.sessions.self.reporter c.report-2.new.self are
     (c.sessions.invariant.sums ticks ss are) past done) c.report-2.ensures.ok

@@ -1,8 +1,8 @@
 use Rattle.std.proofs.Common.{[], ◌∷◌, refl}
 use Rattle.gs_run.specs.Deed.{Reset}
+use Rattle.gs_bytes.proofs.Cases.{on_ok}
 use Rattle.gs_trial.proofs.Acting.{runs_in, runs_nowhere}
 use Rattle.gs_trial.proofs.Keeping.{ready_sent}
-use Rattle.gs_trial.proofs.Results.{on_any}
 use Rattle.gs_trial.proofs.trial.Trial.reset.Goals as goal
 
 pub returns-in_err-place-clause-ran : goal.returns-in_err-place-clause-ran
@@ -18,6 +18,6 @@ returns-clause-ran c =
 
 pub returns-clause-ready : goal.returns-clause-ready
 returns-clause-ready c =
-    on_any c.allowed.result _
+    on_ok c.allowed.result _
     (ready_sent c.args.self.now _ c.in_ok-place.place c.index_mut.result.now c.reset.new.self refl refl c.in_ok-place.ensures.ok.1 c.index_mut.ensures.value
     c.in_ok-done.ensures.sent c.requires.ready)

@@ -1,9 +1,9 @@
 use Rattle.std.proofs.Common.{Some, subst}
+use Rattle.std.proofs.lemmas.Result.{IfErr-weaker, on_ok_weaker}
 use Rattle.gs_schedule.specs.declared.step.Step.{Step}
 use Rattle.gs_run.specs.Line.{HasStep}
 use Rattle.gs_trial.proofs.Leading.{ends_bad}
 use Rattle.gs_trial.proofs.Proper.{proper}
-use Rattle.gs_trial.proofs.Results.{err_more, on_more}
 use Rattle.gs_trial.proofs.RunLines.{ends_line, has_none, has_step, led_line}
 use Rattle.gs_trial.proofs.trial.Trial.run_line.Goals as goal
 
@@ -18,7 +18,7 @@ returns-in_default-clause-ends g c = λ file state rest stands.
 
 pub returns-clause-led : goal.returns-clause-led
 returns-clause-led g c =
-    on_more c.run_step.result _ _
+    on_ok_weaker c.run_step.result
     (λ ran. λ file state rest stands.
     led_line c.args.self.now.reporter file c.args.line.now.number c.args.line.now.bytes rest state c.in-Some.step _ _ _ c.run_step.new.self
     (has_step c.args.line.now.number c.args.line.now.bytes c.as_bytes.result.now c.read_line.result c.in-Some.step c.as_bytes.ensures c.in-Some.is
@@ -28,7 +28,7 @@ returns-clause-led g c =
 
 pub returns-clause-ends : goal.returns-clause-ends
 returns-clause-ends g c =
-    err_more c.run_step.result _ _
+    IfErr-weaker c.run_step.result _ _
     (λ answer ends. λ file state rest stands.
     ends_line c.args.self.now.reporter file c.args.line.now.number c.args.line.now.bytes rest state c.in-Some.step _ _ answer
     (has_step c.args.line.now.number c.args.line.now.bytes c.as_bytes.result.now c.read_line.result c.in-Some.step c.as_bytes.ensures c.in-Some.is
@@ -43,7 +43,7 @@ pub returns-clause-at_capture : goal.returns-clause-at_capture
 returns-clause-at_capture g c =
     let number = c.args.line.now.number in
     let bytes = c.args.line.now.bytes in
-    err_more c.run_step.result _ _
+    IfErr-weaker c.run_step.result _ _
     (λ answer at. λ is. (
       subst (λ (s : Step). HasStep number bytes (Some s)) (at is).0
           (has_step number bytes c.as_bytes.result.now c.read_line.result c.in-Some.step c.as_bytes.ensures c.in-Some.is

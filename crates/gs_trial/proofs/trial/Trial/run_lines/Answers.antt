@@ -1,9 +1,9 @@
 use Rattle.std.proofs.Common.{◌≡◌, ◌∙◌, ℕ, List, [], Ok, Err, inl, inr, refl, sym, ap, subst}
 use Rattle.std.proofs.lemmas.Result.{err_from_is_err_and}
-use Rattle.gs_bytes.proofs.StreamLemmas.{KeepsFlag-trans}
+use Rattle.gs_bytes.proofs.StreamLemmas.{KeepsFlag-trans, KeepsFlag-refl}
 use Rattle.gs_schedule.specs.Lines.{LinesState}
 use Rattle.gs_schedule.proofs.Flags.{TellsFlag-refl, TellsFlag-trans, told_then_set}
-use Rattle.gs_trial.proofs.Counting.{counts_none, keeps_flag}
+use Rattle.gs_trial.proofs.Counting.{counts_none}
 use Rattle.gs_trial.proofs.Results.{not_of_run, not_of_source}
 use Rattle.gs_trial.proofs.Stopped.{neither, stops_more, stops_not, stops_read}
 use Rattle.std.specs.Io.KnownBytes.{Appends}
@@ -23,7 +23,7 @@ lines-init g c =
           (led_start file bytes state (g.K.Outside.written c.args.out.now) (g.T.Outside.left c.args.schedule.now) trial
           (g.S.Outside.left c.args.tape.now) stands is);
       tells = TellsFlag-refl (g.T.Outside.met_end c.args.schedule.now);
-      not_met = keeps_flag (g.S.Outside.met_end c.args.tape.now);
+      not_met = KeepsFlag-refl (g.S.Outside.met_end c.args.tape.now);
       tape_faults = refl;
       schedule_faults = refl;
       write_faults = refl;

@@ -3,7 +3,7 @@ use Rattle.gs_bytes.specs.Outside.{KeepsFlag}
 use Rattle.gs_schedule.specs.Lines.{TellsFlag}
 use Rattle.gs_run.specs.CaptureFile.{CaptureFile}
 use Rattle.gs_run.specs.Session.{State}
-use Rattle.gs_trial.specs.Standing.{IsReady, StandsFor}
+use Rattle.gs_trial.specs.Standing.{IsReady, IsTrialOf}
 use Rattle.gs_trial.proofs.RunLines.{LedOn}
 use Rattle.gs_trial.proofs.trial.Trial.run_lines.Given as goal
 
@@ -17,7 +17,7 @@ invariant-lines g l =
     let out = g.K.Outside in
     record {
       ready : IsReady l.self;
-      led : (file : CaptureFile) (state : State) (bytes : List ℕ) → StandsFor l.fn.self file (tape.left l.fn.tape) state
+      led : (file : CaptureFile) (state : State) (bytes : List ℕ) → IsTrialOf l.fn.self file (tape.left l.fn.tape) state
           → schedule.left l.fn.schedule ≡ Some bytes
           → LedOn l.fn.self.reporter file bytes state (out.written l.fn.out) (out.written l.out) l.lines (schedule.left l.schedule) l.self
           (tape.left l.tape);

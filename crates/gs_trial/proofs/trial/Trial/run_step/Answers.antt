@@ -1,10 +1,11 @@
 use Rattle.std.proofs.Common.{◌≡◌, ◌∙◌, ℕ, List, Option, true, false, [], Err, refl, sym, ap, subst}
 use Rattle.std.specs.Prelude.{is_some}
-use Rattle.std.proofs.lemmas.Result.{err_from_is_err_and}
+use Rattle.std.proofs.lemmas.Result.{err_from_is_err_and, IfErr-weaker, on_ok_weaker}
 use Rattle.gs_trial.specs.Stepping.{refusal_of}
+use Rattle.gs_bytes.proofs.Cases.{on_ok}
 use Rattle.gs_trial.proofs.Keeping.{ready_still}
 use Rattle.gs_trial.proofs.Leading.{same_stands}
-use Rattle.gs_trial.proofs.Results.{err_both, err_more, not_of_run, on_any, on_more}
+use Rattle.gs_trial.proofs.Results.{err_both, not_of_run}
 use Rattle.gs_trial.proofs.StepTexts.{ends_after, ends_at, ends_behind_it, ends_part, ends_told, ends_unknown, ran_behind, ran_step}
 use Rattle.gs_tape.specs.declared.error.TapeError.TheVariants as tape_error
 use Rattle.gs_trial.specs.declared.error.StepError.{StepError}
@@ -44,7 +45,7 @@ pub returns-in-Ok-clause-ran : goal.returns-in-Ok-clause-ran
 returns-in-Ok-clause-ran g c =
     let first = c.in_ok-write_before_step.ensures in
     let here = c.write_before_step.new.self in
-    on_more c.write_piece.result _ _
+    on_ok_weaker c.write_piece.result
     (λ wrote. λ file state stands.
     ran_behind c.args.self.now.reporter here.reporter file c.args.step.now state _ _ _ _ c.write_piece.new.self first.kept.detail first.up_to
     (ran_step c.step.new.self c.write_piece.new.self here.reporter file c.args.step.now state _ _ _
@@ -89,7 +90,7 @@ returns-after-is_told-clause-ends g c = λ file state stands.
 
 pub returns-in-Ok-clause-ready : goal.returns-in-Ok-clause-ready
 returns-in-Ok-clause-ready g c =
-    on_any c.write_piece.result _ (ready_still c.step.new.self c.write_piece.new.self c.write_piece.ensures.kept c.in-Ok.ensures.ready)
+    on_ok c.write_piece.result _ (ready_still c.step.new.self c.write_piece.new.self c.write_piece.ensures.kept c.in-Ok.ensures.ready)
 
 pub returns-in_err-write_before_step-clause-at_capture : goal.returns-in_err-write_before_step-clause-at_capture
 returns-in_err-write_before_step-clause-at_capture g c =
@@ -102,7 +103,7 @@ returns-in_err-write_text-in-Err-clause-at_capture g c =
     rw (p.1, p.2) (λ is. never_tape _ _ c.in_err-write_text-in-Err.ensures.cause is)
 
 pub returns-in-Ok-clause-at_capture : goal.returns-in-Ok-clause-at_capture
-returns-in-Ok-clause-at_capture g c = err_more c.write_piece.result _ _ (λ answer cause is. never_tape answer _ cause is) c.write_piece.ensures.cause
+returns-in-Ok-clause-at_capture g c = IfErr-weaker c.write_piece.result _ _ (λ answer cause is. never_tape answer _ cause is) c.write_piece.ensures.cause
 
 pub returns-after-is_told-clause-at_capture : goal.returns-after-is_told-clause-at_capture
 returns-after-is_told-clause-at_capture g c = λ is.

@@ -3,13 +3,13 @@ use Rattle.std.proofs.lemmas.List.{length-set}
 use Rattle.std.proofs.lemmas.List.Elements.{All-set}
 use Rattle.gs_host_end.specs.Outcomes.{KeepsTicks}
 use Rattle.gs_loopback.specs.declared.session.Loopback.{Loopback}
+use Rattle.gs_loopback.proofs.Parts.{still_keeps}
 use Rattle.gs_report.specs.Reporting.{Did}
+use Rattle.gs_report.proofs.Reported.{with_none}
 use Rattle.gs_run.specs.Report.{Acted}
-use Rattle.gs_run.specs.Session.{Session}
+use Rattle.gs_run.specs.Session.{RunSession}
 use Rattle.gs_trial.specs.Standing.{AreSessions}
-use Rattle.gs_trial.proofs.Keeping.{keeps_sent}
 use Rattle.gs_trial.proofs.SessionLists.{sessions_long}
-use Rattle.gs_trial.proofs.Texts.{with_none}
 use Rattle.gs_trial.proofs.Timers.{timed_all, timed_more, timed_none, timed_to}
 use Rattle.gs_trial.proofs.trial.Trial.run_timers.Goals as goal
 
@@ -21,7 +21,7 @@ sessions-init c =
       feed = (refl, refl);
       long = refl;
       timed = λ ticks ss are.
-          subst (λ (a : Acted (List Session)). Did (AreSessions ticks 1 c.args.self.now.sessions.items) a c.args.self.now.reporter c.args.self.now.reporter)
+          subst (λ (a : Acted (List RunSession)). Did (AreSessions ticks 1 c.args.self.now.sessions.items) a c.args.self.now.reporter c.args.self.now.reporter)
           (sym (timed_none 1 c.args.moment ss)) (record { stands = are; text = sym (with_none c.args.self.now.reporter) });
     }
 
@@ -35,8 +35,8 @@ sessions-preserved c =
     let was = c.index_mut-session.result.now in
     let keeps : KeepsTicks before.feed was.host =
     subst (λ (l : Loopback). KeepsTicks before.feed l.host) (sym c.index_mut-session.ensures.value) (ready.keep c.sessions.place was within) in
-    let timed = keeps_sent before.feed was.host c.timer.new.self.host c.in_ok-timer.ensures.sent keeps in
-    let settled = keeps_sent before.feed c.timer.new.self.host c.settle.new.self.host c.in_ok-settle.ensures.sent timed in
+    let timed = still_keeps before.feed was.host c.timer.new.self.host c.in_ok-timer.ensures.sent keeps in
+    let settled = still_keeps before.feed c.timer.new.self.host c.settle.new.self.host c.in_ok-settle.ensures.sent timed in
     record {
       ready = record {
         stage = ready.stage;
@@ -56,7 +56,7 @@ returns-clause-timed c = λ ticks ss are.
     let did = c.sessions.invariant.timed ticks ss are in
     let long = sessions_long ticks 1 c.args.self.now.sessions.items ss are in
     let all : c.sessions.place ≡ length ss = omega arith in
-    subst (λ (a : Acted (List Session)). Did (AreSessions ticks 1 c.sessions.self.sessions.items) a c.args.self.now.reporter c.sessions.self.reporter)
+    subst (λ (a : Acted (List RunSession)). Did (AreSessions ticks 1 c.sessions.self.sessions.items) a c.args.self.now.reporter c.sessions.self.reporter)
     (timed_all 1 c.args.moment ss)
     (subst (λ (k : ℕ). Did (AreSessions ticks 1 c.sessions.self.sessions.items)
     (timed_to 1 c.args.moment k ss) c.args.self.now.reporter c.sessions.self.reporter)

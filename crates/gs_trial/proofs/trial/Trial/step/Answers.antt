@@ -4,8 +4,8 @@ use Rattle.gs_run.specs.Deed.{In, TakeAudio, TakeDown, TakeUp, TakeVideo}
 use Rattle.gs_run.specs.Done.{ran}
 use Rattle.gs_run.specs.Line.{AreDeeds}
 use Rattle.gs_trial.specs.Stepping.{StepsIfTold}
-use Rattle.gs_trial.proofs.Texts.{with_none}
 use Rattle.gs_trial.proofs.Told.{told_as}
+use Rattle.gs_report.proofs.Reported.{with_none}
 use Rattle.gs_trial.proofs.trial.Trial.step.Goals as goal
 
 pub returns-in-Blank-clause-ran : goal.returns-in-Blank-clause-ran

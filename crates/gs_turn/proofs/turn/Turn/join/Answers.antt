@@ -1,9 +1,10 @@
 use Rattle.std.proofs.Common.{rules, ◌≤◌, length, Option, ap, sym, ◌∙◌, subst}
 use Rattle.std.specs.List.{AllByRecursion}
+use Rattle.std.proofs.lemmas.List.{nil_from_length}
 use Rattle.atomic_table.specs.Table.{Me}
 use Rattle.gs_turn.specs.declared.rule.PassView.{PassView}
 use Rattle.gs_turn.specs.History.{has_number}
-use Rattle.gs_turn.proofs.Keeping.{outside_is, empty_is}
+use Rattle.gs_turn.proofs.Keeping.{outside_is}
 use Rattle.gs_turn.proofs.Joining.{joins, numbers_of_both}
 use Rattle.gs_turn.proofs.Settling.{settles, short_left, short_right}
 use Rattle.gs_turn.proofs.turn.Turn.join.Goals as goal
@@ -12,7 +13,7 @@ pub join_seat-requires : goal.join_seat-requires
 join_seat-requires g c = (
   search rules,
   search rules,
-  empty_is _ c.args.give.holds_nothing,
+  nil_from_length _ c.args.give.holds_nothing,
   search rules,
   joins g.S.Turned.steps c.args.self.now.table.shared.key _ _ _ _ (outside_is _ c.args.keep.now.outside)
       (outside_is _ c.args.give.outside) c.args.keep.now.numbered,

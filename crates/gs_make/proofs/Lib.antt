@@ -1,0 +1,10 @@
+pub mod Staying
+pub mod FewAsks
+pub mod FewUnits
+pub mod FewDatagrams
+pub mod Making
+pub mod NextPumped
+pub mod Reached
+pub mod Pumping
+pub mod Running
+pub mod EndingWell
