@@ -25,4 +25,5 @@ pub mod GeneratedSteps
 pub mod Copies
 pub mod Made
 pub mod Heads
+pub mod Taking
 pub mod Stopped

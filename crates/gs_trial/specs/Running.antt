@@ -17,7 +17,7 @@ use Rattle.gs_run.specs.Line.{AreDeeds, HasStep}
 use Rattle.gs_run.specs.Run.{Run, RunsFrom, refusal_status}
 use Rattle.gs_trial.specs.declared.trial.Trial.{Trial}
 use Rattle.gs_trial.specs.Standing.{IsTrialOf}
-use Rattle.gs_trial.specs.Stopping.{IsAtCapture}
+use Rattle.gs_trial.specs.Stopping.{StopsAtCapture}
 pub use Rattle.gs_trial.specs.Stopping.{Leads}
 use Rattle.gs_trial.specs.Trial.{WritesFront, is_of_run, is_of_source}
 
@@ -87,16 +87,23 @@ pub record HasLed (before : Reporting) (file : CaptureFile) (lines : List (List 
   pub run : Leads HasStep file 1 lines state reports number rest reached
   pub writes : Appends old new (with_reports before reports).text
 
+-- the same up to where the capture file is read, and what was read of its bytes
+abbrev pub HasLedToCut : Reporting → CaptureFile → (tape : List ℕ) → List (List ℕ) → State
+    → (left old new : Option (List ℕ)) → Type 0
+HasLedToCut before file tape lines state left old new =
+    (number : ℕ) × (rest : List (List ℕ)) × (led : HasLed before file lines state number rest old new)
+    × StopsAtCapture tape left led.reached.captured number rest
+
 -- up to a line that captures, where a read of the capture file failed, and all lines of what was read of the schedule,
 -- where one of it did
-abbrev pub StopsLines : Reporting → CaptureFile → List (List ℕ) → State → (unread old new : Option (List ℕ))
-    → TrialStatus → Type 0
-StopsLines before file lines state unread old new status.TapeFault =
-    (number : ℕ) × (rest : List (List ℕ)) × IsAtCapture number rest × HasLed before file lines state number rest old new
-StopsLines before file lines state unread old new status.ScheduleFault = IfSome unread (λ unread.
+abbrev pub StopsLines : Reporting → CaptureFile → (tape : List ℕ) → List (List ℕ) → State
+    → (left unread old new : Option (List ℕ)) → TrialStatus → Type 0
+StopsLines before file tape lines state left unread old new status.TapeFault =
+    HasLedToCut before file tape lines state left old new
+StopsLines before file tape lines state left unread old new status.ScheduleFault = IfSome unread (λ unread.
     (number : ℕ) × (held : List ℕ) × (holds_line held ≡ false)
     × HasLed before file lines state number (lines_of (held ++ unread)) old new)
-StopsLines before file lines state unread old new _ = ⊤
+StopsLines before file tape lines state left unread old new _ = ⊤
 
 -- ---- one step
 

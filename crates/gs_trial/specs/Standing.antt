@@ -5,6 +5,7 @@ use Rattle.gs_tape.specs.Tick.{Tick}
 use Rattle.gs_tape.specs.Limits.{most_audio, IsDuration}
 use Rattle.gs_tape.specs.declared.stage.Stage.TheVariants.{Open}
 use Rattle.gs_feed.specs.Feeding.{Feeding, IsFeedAt}
+use Rattle.gs_feed.specs.Cuts.{HasTaken}
 use Rattle.gs_host_end.specs.Outcomes.{KeepsTicks}
 use Rattle.gs_loopback.specs.declared.session.Loopback.{Loopback}
 use Rattle.gs_loopback.specs.Standing.{IsLoopbackOf}
@@ -31,6 +32,10 @@ pub record IsFeedOf (feed : Feeding) (file : CaptureFile) (left : Option (List �
   pub stands : IsFeedAt feed left file.ticks file.fault
   pub audio : feed.tape.audio ≡ file.audio
   pub duration : feed.tape.duration ≡ file.duration
+
+-- Of a capture file with these bytes the feed took some: its head, and a tick for each capture.
+abbrev pub FeedHasTaken : List ℕ → Feeding → (left : Option (List ℕ)) → Type 0
+FeedHasTaken bytes feed left = HasTaken bytes feed.tape feed.count left
 
 pub record IsTrialOf (trial : Trial) (file : CaptureFile) (left : Option (List ℕ)) (state : State) : Type 0 where
   pub feed : IsFeedOf trial.feed file left

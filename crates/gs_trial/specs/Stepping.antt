@@ -11,6 +11,8 @@ use Rattle.gs_schedule.specs.declared.step.Step.{Step}
 use Rattle.gs_schedule.specs.declared.step.Step.TheVariants as step
 use Rattle.gs_schedule.specs.declared.status.TrialStatus.{TrialStatus}
 use Rattle.gs_schedule.specs.declared.status.TrialStatus.TheVariants as status
+use Rattle.gs_feed.specs.Feeding.{Feeding}
+use Rattle.gs_feed.specs.Cuts.{StopsBehind}
 use Rattle.gs_report.specs.Reporting.{Reporting, with_reports}
 use Rattle.gs_run.specs.CaptureFile.{CaptureFile}
 use Rattle.gs_run.specs.Session.{State}
@@ -21,7 +23,7 @@ use Rattle.gs_run.specs.Line.{AreDeeds}
 use Rattle.gs_trial.specs.declared.error.StepError.{StepError}
 use Rattle.gs_trial.specs.declared.error.StepError.TheVariants as step_error
 use Rattle.gs_trial.specs.declared.trial.Trial.{Trial}
-use Rattle.gs_trial.specs.Standing.{IsTrialOf}
+use Rattle.gs_trial.specs.Standing.{FeedHasTaken, IsTrialOf}
 
 -- the refusal that an error tells; a source that failed and want of memory tell none
 abbrev pub refusal_of_tape : Option Fault → Option Refusal
@@ -81,6 +83,13 @@ abbrev pub StepsIfTold : CaptureFile → Step → State → Option (List ℕ) �
 StepsIfTold file step state left new before now (Ok done) = Steps file step state left new before now (Ok done)
 StepsIfTold file step state left new before now (Err e) =
     IfSome (refusal_of e) (λ why. Steps file step state left new before now (Err e))
+
+-- Which bytes of the capture file were taken behind it, and what was read of them where the source failed behind so
+-- many captures.
+abbrev pub TakesBytes : List ℕ → (before : ℕ) → (new : Feeding) → (left : Option (List ℕ)) → Result ⊤ StepError → Type 0
+TakesBytes bytes before new left (Ok done) = FeedHasTaken bytes new left
+TakesBytes bytes before new left (Err (step_error.Tape tape_error.TapeFault)) = StopsBehind bytes left before
+TakesBytes bytes before new left (Err _) = ⊤
 
 -- the event of a step is of a known kind, and its button is one; datagrams are named from the first to the last
 abbrev pub IsStepAllowed : Step → Type 0

@@ -1,6 +1,7 @@
--- What a script ran before a read of a source failed.
+-- What a script ran and read before a read of a source failed.
 use Rattle.std.specs.Prelude.{ℕ, ◌≡◌, ◌⊎◌, ◌++◌, Bool, false, List, [], ◌∷◌, Option, Some, None, IfSome, ⊤}
 use Rattle.std.specs.Io.KnownBytes.{Appends}
+use Rattle.gs_feed.specs.Cuts.{StopsBehind, StopsInHead, StopsInRest}
 use Rattle.gs_command.specs.declared.command.Detail.{Detail}
 use Rattle.gs_schedule.specs.Lines.{holds_line, lines_of}
 use Rattle.gs_schedule.specs.declared.step.Step.{Step}
@@ -29,28 +30,36 @@ pub record HasRun (detail : Detail) (file : CaptureFile) (lines : List (List ℕ
   pub run : Leads HasStep file 1 lines start reports number rest state
   pub writes : Appends old new (text_of detail reports)
 
--- the next line captures, or none is left
-abbrev pub IsAtCapture : ℕ → List (List ℕ) → Type 0
-IsAtCapture number [] = ⊤
-IsAtCapture number (line ∷ rest) = HasStep number line (Some step.Cap)
+-- The next line captures, and what was read of the capture file ends behind a tick for each capture before it; or none
+-- is left, and it ends behind those or behind later ones.
+abbrev pub StopsAtCapture : (tape : List ℕ) → (left : Option (List ℕ)) → (captured : ℕ) → ℕ → List (List ℕ) → Type 0
+StopsAtCapture tape left captured number [] = StopsInRest tape left captured
+StopsAtCapture tape left captured number (line ∷ rest) =
+    HasStep number line (Some step.Cap) × StopsBehind tape left captured
 
--- Where the capture file is read: before all lines, at one that captures, and behind all.
-abbrev pub ReadsTape : List (List ℕ) → ℕ → List (List ℕ) → Type 0
-ReadsTape lines number rest = ((number ≡ 1) × (rest ≡ lines)) ⊎ IsAtCapture number rest
+-- Where the capture file is read, and what was read of it: its head before all lines, a tick at one that captures, and
+-- its rest behind all.
+abbrev pub StopsTape : (tape : List ℕ) → (left : Option (List ℕ)) → List (List ℕ) → (captured : ℕ) → ℕ → List (List ℕ)
+    → Type 0
+StopsTape tape left lines captured number rest =
+    ((number ≡ 1) × (rest ≡ lines) × StopsInHead tape left) ⊎ StopsAtCapture tape left captured number rest
 
--- Where a read of the capture file failed, the lines were run up to where it is read. Where one of the schedule failed,
--- all lines of what was read of it were, and what was read besides is no whole line.
-abbrev pub Stops : Detail → CaptureFile → List (List ℕ) → (unread old new : Option (List ℕ)) → TrialStatus → Type 0
-Stops detail file lines unread old new status.TapeFault =
-    (number : ℕ) × (rest : List (List ℕ)) × ReadsTape lines number rest × HasRun detail file lines number rest old new
-Stops detail file lines unread old new status.ScheduleFault = IfSome unread (λ unread.
+-- Where a read of the capture file failed, the lines were run up to where it is read, and what was read of its bytes
+-- ends too early there. Where one of the schedule failed, all lines of what was read of it were, and what was read
+-- besides is no whole line.
+abbrev pub Stops : Detail → (tape : List ℕ) → List (List ℕ) → (left unread old new : Option (List ℕ)) → TrialStatus
+    → Type 0
+Stops detail tape lines left unread old new status.TapeFault =
+    (number : ℕ) × (rest : List (List ℕ)) × (has : HasRun detail (file_of tape) lines number rest old new)
+    × StopsTape tape left lines has.state.captured number rest
+Stops detail tape lines left unread old new status.ScheduleFault = IfSome unread (λ unread.
     (number : ℕ) × (held : List ℕ) × (holds_line held ≡ false)
-    × HasRun detail file lines number (lines_of (held ++ unread)) old new)
-Stops detail file lines unread old new _ = ⊤
+    × HasRun detail (file_of tape) lines number (lines_of (held ++ unread)) old new)
+Stops detail tape lines left unread old new _ = ⊤
 
 -- where both sources tell their bytes
-abbrev pub StopsIfTold : Detail → (tape schedule unread old new : Option (List ℕ)) → TrialStatus → Type 0
-StopsIfTold detail None schedule unread old new answer = ⊤
-StopsIfTold detail (Some tape) None unread old new answer = ⊤
-StopsIfTold detail (Some tape) (Some schedule) unread old new answer =
-    Stops detail (file_of tape) (lines_of schedule) unread old new answer
+abbrev pub StopsIfTold : Detail → (tape schedule left unread old new : Option (List ℕ)) → TrialStatus → Type 0
+StopsIfTold detail None schedule left unread old new answer = ⊤
+StopsIfTold detail (Some tape) None left unread old new answer = ⊤
+StopsIfTold detail (Some tape) (Some schedule) left unread old new answer =
+    Stops detail tape (lines_of schedule) left unread old new answer

@@ -4,13 +4,14 @@ ghost use Rattle.std.specs.Prelude.{◌≡◌, ◌≢◌, ◌≤◌, ◌<◌, �
 ghost use Rattle.std.specs.Prelude.{length};
 ghost use Rattle.std.specs.Io.KnownBytes.{Appends, IsAtEnd};
 ghost use Rattle.gs_bytes.specs.Outside.{KeepsFlag, SetsFlag};
+ghost use Rattle.gs_feed.specs.Cuts.{StopsBehind};
 ghost use Rattle.gs_schedule.specs.Lines.{lines_of, most_line};
 ghost use Rattle.gs_schedule.specs.declared.step.Step.TheVariants.{Cap};
 ghost use Rattle.gs_run.specs.CaptureFile.{CaptureFile};
 ghost use Rattle.gs_run.specs.Session.{State};
 ghost use Rattle.gs_run.specs.Line.{HasStep};
 ghost use Rattle.gs_run.specs.Run.{stopped};
-ghost use Rattle.gs_trial.specs.Standing.{IsReady, IsTrialOf};
+ghost use Rattle.gs_trial.specs.Standing.{FeedHasTaken, IsReady, IsTrialOf};
 ghost use Rattle.gs_trial.specs.Running.{EndsRun, LedTo, StopsLines, WritesBehind};
 ghost use Rattle.gs_trial.specs.Trial.{CountsFor, IsCause};
 
@@ -37,11 +38,13 @@ impl Trial {
             → IsTrialOf self.old file (S.left tape.old) state
             → T.left schedule.old ≡ Some bytes → EndsRun HasStep self.old.reporter file 1 (lines_of bytes) state
             (K.written out.old) (K.written out.new) answer) }
-        ensures stops { IfErr result (λ answer. (file : CaptureFile) (state : State) (bytes : List ℕ)
-            → IsTrialOf self.old file (S.left tape.old) state
-            → T.left schedule.old ≡ Some bytes
-            → StopsLines self.old.reporter file (lines_of bytes) state (T.left schedule.new)
-            (K.written out.old) (K.written out.new) answer) }
+        ensures taken { OnOk result ((tape_bytes : List ℕ) → FeedHasTaken tape_bytes self.old.feed (S.left tape.old)
+            → FeedHasTaken tape_bytes self.new.feed (S.left tape.new)) }
+        ensures stops { IfErr result (λ answer. (file : CaptureFile) (tape_bytes : List ℕ) (state : State)
+            (bytes : List ℕ) → IsTrialOf self.old file (S.left tape.old) state
+            → FeedHasTaken tape_bytes self.old.feed (S.left tape.old) → T.left schedule.old ≡ Some bytes
+            → StopsLines self.old.reporter file tape_bytes (lines_of bytes) state (S.left tape.new)
+            (T.left schedule.new) (K.written out.old) (K.written out.new) answer) }
         ensures cause { IfErr result IsCause }
         ensures at_end { OnOk result (IsAtEnd (T.left schedule.new)) }
         ensures met_end { OnOk result (SetsFlag (T.met_end schedule.old) (T.met_end schedule.new)) }
@@ -100,6 +103,11 @@ impl Trial {
         ensures at_capture { IfErr result (λ e. e ≡ TrialStatus.TapeFault
             → HasStep line.now.number line.now.bytes (Some Cap)
             × Appends (K.written out.old) (K.written out.new) self.old.reporter.text) }
+        ensures taken { OnOk result ((bytes : List ℕ) → FeedHasTaken bytes self.old.feed (S.left tape.old)
+            → FeedHasTaken bytes self.new.feed (S.left tape.new)) }
+        ensures cut { IfErr result (λ e. e ≡ TrialStatus.TapeFault → (bytes : List ℕ)
+            → FeedHasTaken bytes self.old.feed (S.left tape.old)
+            → StopsBehind bytes (S.left tape.new) self.old.feed.count) }
         ensures cause { IfErr result IsCause }
         ensures not_met { OnOk result (KeepsFlag (S.met_end tape.old) (S.met_end tape.new)) }
         ensures not_schedule { IfErr result (λ e. e ≢ TrialStatus.ScheduleFault) }

@@ -1,12 +1,13 @@
 // A step that is run, and its text.
 
-ghost use Rattle.std.specs.Prelude.{◌≡◌, ◌≢◌, ◌⊎◌, true, [], IfErr, OnErr, OnOk};
+ghost use Rattle.std.specs.Prelude.{◌≡◌, ◌≢◌, ◌⊎◌, ℕ, true, List, [], IfErr, OnErr, OnOk};
 ghost use Rattle.std.specs.Io.KnownBytes.{Appends};
 ghost use Rattle.gs_bytes.specs.Outside.{AppendsPart, KeepsFlag};
+ghost use Rattle.gs_feed.specs.Cuts.{StopsBehind};
 ghost use Rattle.gs_schedule.specs.Lines.{holds_line};
 ghost use Rattle.gs_run.specs.CaptureFile.{CaptureFile};
 ghost use Rattle.gs_run.specs.Session.{State};
-ghost use Rattle.gs_trial.specs.Standing.{IsReady, IsTrialOf};
+ghost use Rattle.gs_trial.specs.Standing.{FeedHasTaken, IsReady, IsTrialOf};
 ghost use Rattle.gs_trial.specs.Stepping.{IsStepAllowed};
 ghost use Rattle.gs_trial.specs.Running.{EndsStep, IsSameButText, RanStep, WritesUpTo};
 ghost use Rattle.gs_trial.specs.Trial.{CountsFor, IsCause};
@@ -40,6 +41,11 @@ impl Trial {
             → EndsStep self.old.reporter file number step.now state (K.written out.old) (K.written out.new) answer) }
         ensures at_capture { IfErr result (λ e. e ≡ TrialStatus.TapeFault
             → (step.now ≡ Step.Cap) × Appends (K.written out.old) (K.written out.new) self.old.reporter.text) }
+        ensures taken { OnOk result ((bytes : List ℕ) → FeedHasTaken bytes self.old.feed (S.left tape.old)
+            → FeedHasTaken bytes self.new.feed (S.left tape.new)) }
+        ensures cut { IfErr result (λ e. e ≡ TrialStatus.TapeFault → (bytes : List ℕ)
+            → FeedHasTaken bytes self.old.feed (S.left tape.old)
+            → StopsBehind bytes (S.left tape.new) self.old.feed.count) }
         ensures cause { IfErr result IsCause }
         ensures not_met { OnOk result (KeepsFlag (S.met_end tape.old) (S.met_end tape.new)) }
         ensures not_schedule { IfErr result (λ e. e ≢ TrialStatus.ScheduleFault) }

@@ -1,9 +1,10 @@
 // A schedule over a capture file.
 
-ghost use Rattle.std.specs.Prelude.{◌≡◌, ◌≢◌, ◌++◌, ◌∷◌, [], IfErr, List, OnOk};
+ghost use Rattle.std.specs.Prelude.{◌≡◌, ◌≢◌, ◌++◌, ◌∷◌, [], ℕ, IfErr, List, OnOk};
 ghost use Rattle.std.specs.Io.KnownBytes.{Appends, IsAtEnd};
 ghost use Rattle.gs_bytes.specs.Outside.{SetsFlag};
 ghost use Rattle.gs_tape.specs.Tick.{Tick};
+ghost use Rattle.gs_feed.specs.Cuts.{StopsInRest};
 ghost use Rattle.gs_schedule.specs.declared.output.Output.TheVariants as output;
 ghost use Rattle.gs_run.specs.CaptureFile.{CaptureFile};
 ghost use Rattle.gs_run.specs.Session.{RunSession, State};
@@ -11,7 +12,7 @@ ghost use Rattle.gs_run.specs.Report.{plain};
 ghost use Rattle.gs_run.specs.Run.{finished};
 ghost use Rattle.gs_run.specs.Totals.{totals_from};
 ghost use Rattle.gs_report.specs.Reporting.{with_reports};
-ghost use Rattle.gs_trial.specs.Standing.{AreSessions, IsReady, IsTrialOf};
+ghost use Rattle.gs_trial.specs.Standing.{AreSessions, FeedHasTaken, IsReady, IsTrialOf};
 ghost use Rattle.gs_trial.specs.Running.{WritesBehind};
 ghost use Rattle.gs_trial.specs.Stopping.{StopsIfTold};
 ghost use Rattle.gs_trial.specs.Trial.{AnswersIfTold, CountsFor, HasHead, IsCause, status_answer};
@@ -36,8 +37,8 @@ pub(crate) fn run_script<S: Source, T: Source, K: Sink>(
 ) -> Result<(), TrialStatus>
     ensures answers { AnswersIfTold detail (S.left tape.old) (T.left schedule.old) (K.written out.old)
         (K.written out.new) (status_answer result) }
-    ensures stops { StopsIfTold detail (S.left tape.old) (T.left schedule.old) (T.left schedule.new)
-        (K.written out.old) (K.written out.new) (status_answer result) }
+    ensures stops { StopsIfTold detail (S.left tape.old) (T.left schedule.old) (S.left tape.new)
+        (T.left schedule.new) (K.written out.old) (K.written out.new) (status_answer result) }
     ensures headless { (HasHead (S.left tape.old) → ⊥) → (schedule.new ≡ schedule.old) × (out.new ≡ out.old) }
     ensures cause { IfErr result IsCause }
     ensures head_first { IfErr result (λ e. e ≡ TrialStatus.ScheduleFault → HasHead (S.left tape.old)) }
@@ -72,6 +73,9 @@ impl Trial {
             (status_answer result) }
         ensures at_rest { IfErr result (λ e. e ≡ TrialStatus.TapeFault
             → Appends (K.written out.old) (K.written out.new) self.old.reporter.text) }
+        ensures cut { IfErr result (λ e. e ≡ TrialStatus.TapeFault → (bytes : List ℕ)
+            → FeedHasTaken bytes self.old.feed (S.left tape.old)
+            → StopsInRest bytes (S.left tape.new) self.old.feed.count) }
         ensures cause { IfErr result IsCause }
         ensures not_schedule { IfErr result (λ e. e ≢ TrialStatus.ScheduleFault) }
         ensures at_end { OnOk result (IsAtEnd (S.left tape.new)) }

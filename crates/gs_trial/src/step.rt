@@ -1,14 +1,14 @@
 // A step of a schedule.
 
-ghost use Rattle.std.specs.Prelude.{◌≡◌, ◌≢◌, ◌≤◌, [], ◌∷◌, Err, IfSome, OnOk};
+ghost use Rattle.std.specs.Prelude.{◌≡◌, ◌≢◌, ◌≤◌, ℕ, List, [], ◌∷◌, Err, IfSome, OnOk};
 ghost use Rattle.std.specs.List.{All};
 ghost use Rattle.gs_bytes.specs.Outside.{KeepsFlag, Rose};
 ghost use Rattle.gs_host_end.specs.Outcomes.{tick_sent};
 ghost use Rattle.gs_run.specs.CaptureFile.{CaptureFile};
 ghost use Rattle.gs_run.specs.Session.{State};
 ghost use Rattle.gs_run.specs.Deed.{Capture};
-ghost use Rattle.gs_trial.specs.Standing.{IsReady, IsTrialOf};
-ghost use Rattle.gs_trial.specs.Stepping.{IsStepAllowed, RunsDeeds, StepsIfTold};
+ghost use Rattle.gs_trial.specs.Standing.{FeedHasTaken, IsReady, IsTrialOf};
+ghost use Rattle.gs_trial.specs.Stepping.{IsStepAllowed, RunsDeeds, StepsIfTold, TakesBytes};
 
 use crate::error::StepError;
 use crate::trial::Trial;
@@ -25,6 +25,8 @@ impl Trial {
         ensures ready { OnOk result (IsReady self.new) }
         ensures ran { (file : CaptureFile) (state : State) → IsTrialOf self.old file (S.left tape.old) state
             → StepsIfTold file step.now state (S.left tape.new) self.new self.old.reporter self.new.reporter result }
+        ensures bytes { (bytes : List ℕ) → FeedHasTaken bytes self.old.feed (S.left tape.old)
+            → TakesBytes bytes self.old.feed.count self.new.feed (S.left tape.new) result }
         ensures not_met { OnOk result (KeepsFlag (S.met_end tape.old) (S.met_end tape.new)) }
         ensures only_cap { result ≡ Err (StepError.Tape TapeError.TapeFault) → step.now ≡ Step.Cap }
         ensures fault { result ≡ Err (StepError.Tape TapeError.TapeFault)
@@ -66,6 +68,8 @@ impl Trial {
         ensures ran { (file : CaptureFile) (state : State) → IsTrialOf self.old file (S.left tape.old) state
             → RunsDeeds file (Capture ∷ []) state (S.left tape.new) self.new self.old.reporter self.new.reporter
             result }
+        ensures bytes { (bytes : List ℕ) → FeedHasTaken bytes self.old.feed (S.left tape.old)
+            → TakesBytes bytes self.old.feed.count self.new.feed (S.left tape.new) result }
         ensures not_met { OnOk result (KeepsFlag (S.met_end tape.old) (S.met_end tape.new)) }
         ensures fault { result ≡ Err (StepError.Tape TapeError.TapeFault)
             → Rose (S.faults tape.old) (S.faults tape.new) }

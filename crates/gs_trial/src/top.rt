@@ -61,11 +61,11 @@ pub fn trial_main<S: Source, T: Source, K: Sink>(
     ensures usage_changes_nothing { IsSome (first_misfit (map string_bytes words.now))
         → (tape.new ≡ tape.old) × (schedule.new ≡ schedule.old) × (out.new ≡ out.old) }
 
-    // Where a read failed: which lines were run before, of which exactly the text was written. Where the head has a
-    // fault no line is read.
+    // Where a read failed: which lines were run before, of which exactly the text was written, and what was read of the
+    // source. Where the head has a fault no line is read.
     ensures stops { (detail : spec.Detail) → command_of (map string_bytes words.now) ≡ Some (TrialCommand.Script detail)
-        → StopsIfTold detail (S.left tape.old) (T.left schedule.old) (T.left schedule.new) (K.written out.old)
-        (K.written out.new) result }
+        → StopsIfTold detail (S.left tape.old) (T.left schedule.old) (S.left tape.new) (T.left schedule.new)
+        (K.written out.old) (K.written out.new) result }
     ensures headless { (HasHead (S.left tape.old) → ⊥) → (detail : spec.Detail)
         → command_of (map string_bytes words.now) ≡ Some (TrialCommand.Script detail)
         → (schedule.new ≡ schedule.old) × (out.new ≡ out.old) }

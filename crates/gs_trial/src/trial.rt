@@ -39,6 +39,7 @@ impl Trial {
         ensures stands { (file : CaptureFile) (left : Option (List ℕ)) → IsFeedOf feed file left
             → IsTrialOf result file left start }
         ensures ready { IsReady result }
+        ensures feed { result.feed ≡ feed }
         ensures text { result.reporter ≡ record { detail = detail; text = [] } }
     {
         Trial {

@@ -40,25 +40,27 @@ returns-clause-head_first g c =
 
 pub returns-in-Err-clause-stops : goal.returns-in-Err-clause-stops
 returns-in-Err-clause-stops g c =
-    stops_unopened c.args.detail (g.S.Outside.left c.args.tape.now) (g.T.Outside.left c.args.schedule.now) _ (g.K.Outside.written c.args.out.now)
-    c.in-Err.error c.tape_status.result c.tape_status.ensures
+    stops_unopened c.args.detail (g.S.Outside.left c.args.tape.now) (g.T.Outside.left c.args.schedule.now) _ _ (g.K.Outside.written c.args.out.now)
+    c.in-Err.error c.tape_status.result c.tape_status.ensures c.in-Err.ensures.bytes
 
 pub returns-in_err-run_lines-clause-stops : goal.returns-in_err-run_lines-clause-stops
 returns-in_err-run_lines-clause-stops g c =
     let p = err_from_is_err_and c.from_residual.result c.from_residual.ensures.1 in
     let trial = c.new-trial.result in
     rw (p.1, p.2)
-    (script_stops c.args.detail trial.reporter (g.S.Outside.left c.args.tape.now) (g.T.Outside.left c.args.schedule.now) _
-    (g.K.Outside.written c.args.out.now) (g.K.Outside.written c.run_lines.new.out) _ c.in-Ok.feed trial c.in_err-run_lines.field-0.0
-    c.new-trial.ensures.text c.in-Ok.ensures.opens c.new-trial.ensures.stands c.in_err-run_lines.ensures.stops)
+    (script_stops c.args.detail trial.reporter (g.S.Outside.left c.args.tape.now) (g.T.Outside.left c.args.schedule.now) _ _ _
+    (g.K.Outside.written c.args.out.now) (g.K.Outside.written c.run_lines.new.out) c.in-Ok.feed trial c.in_err-run_lines.field-0.0
+    c.new-trial.ensures.text c.in-Ok.ensures.opens c.in-Ok.ensures.bytes c.in-Ok.ensures.first.0 c.new-trial.ensures.feed c.new-trial.ensures.stands
+    c.in_err-run_lines.ensures.stops)
 
 pub returns-clause-stops : goal.returns-clause-stops
 returns-clause-stops g c =
     let trial = c.new-trial.result in
-    script_stops_behind c.args.detail trial.reporter (g.S.Outside.left c.args.tape.now) (g.T.Outside.left c.args.schedule.now) _
-    (g.K.Outside.written c.args.out.now) (g.K.Outside.written c.run_lines.new.out) (g.K.Outside.written c.finish.new.out) _ _ c.in-Ok.feed trial
-    c.run_lines.new.self c.finish.result c.new-trial.ensures.text c.in-Ok.ensures.opens c.new-trial.ensures.stands c.in_ok-run_lines.ensures.led
-    c.finish.ensures.at_rest c.finish.ensures.not_schedule
+    script_stops_behind c.args.detail trial.reporter (g.S.Outside.left c.args.tape.now) (g.T.Outside.left c.args.schedule.now) _ _ _ _
+    (g.K.Outside.written c.args.out.now) (g.K.Outside.written c.run_lines.new.out) (g.K.Outside.written c.finish.new.out) c.in-Ok.feed trial
+    c.run_lines.new.self c.finish.result c.new-trial.ensures.text c.in-Ok.ensures.opens c.in-Ok.ensures.bytes c.in-Ok.ensures.first.0
+    c.new-trial.ensures.feed c.new-trial.ensures.stands c.in_ok-run_lines.ensures.led c.in_ok-run_lines.ensures.taken c.finish.ensures.at_rest
+    c.finish.ensures.cut c.finish.ensures.not_schedule
 
 pub returns-in-Err-clause-headless : goal.returns-in-Err-clause-headless
 returns-in-Err-clause-headless g c = λ no. (refl, refl)

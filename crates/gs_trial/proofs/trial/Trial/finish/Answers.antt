@@ -1,4 +1,4 @@
-use Rattle.std.proofs.Common.{◌∙◌, refl, subst, sym}
+use Rattle.std.proofs.Common.{◌∙◌, inr, refl, subst, sym}
 use Rattle.gs_schedule.specs.declared.status.TrialStatus.{TrialStatus}
 use Rattle.gs_schedule.specs.declared.status.TrialStatus.TheVariants as status
 use Rattle.gs_run.specs.Run.{finished}
@@ -6,7 +6,9 @@ use Rattle.gs_trial.specs.Running.{WritesBehind}
 use Rattle.gs_bytes.proofs.Cases.{from_ok}
 use Rattle.gs_trial.proofs.Leading.{front_of, same_stands}
 use Rattle.std.proofs.lemmas.Result.{err_from_is_err_and, IfErr-weaker}
+use Rattle.gs_trial.proofs.Keeping.{ready_still}
 use Rattle.gs_trial.proofs.Stopped.{never_tape}
+use Rattle.gs_trial.proofs.Taking.{cut_rest}
 use Rattle.gs_trial.proofs.Scripts.{finish_fails, finish_writes}
 use Rattle.gs_trial.proofs.Texts.{front_all}
 use Rattle.gs_trial.proofs.trial.Trial.finish.Goals as goal
@@ -49,3 +51,22 @@ returns-then-is_err-clause-at_rest g c = λ is. c.in_ok-write_text.ensures.ok
 
 pub returns-clause-at_rest : goal.returns-clause-at_rest
 returns-clause-at_rest g c = IfErr-weaker c.write_text-2.result _ _ (λ answer cause is. never_tape answer _ cause is) c.write_text-2.ensures.cause
+
+pub returns-in_err-write_text-clause-cut : goal.returns-in_err-write_text-clause-cut
+returns-in_err-write_text-clause-cut g c =
+    let p = err_from_is_err_and c.from_residual.result c.from_residual.ensures.1 in
+    rw (p.1, p.2) (λ is. never_tape _ _ c.in_err-write_text.ensures.cause is)
+
+pub returns-in-Err-clause-cut : goal.returns-in-Err-clause-cut
+returns-in-Err-clause-cut g c = λ is bytes had.
+    let wrote = c.in_ok-write_text.ensures in
+    let here = c.write_text.new.self in
+    let ready = ready_still c.args.self.now here wrote.kept c.requires.ready in
+    cut_rest c.in-Err.error bytes c.args.self.now.feed here.feed _ _ c.tape_status.result wrote.kept.feed c.tape_status.ensures is
+    (c.in-Err.ensures.bytes bytes ready.stage) had
+
+pub returns-then-is_err-clause-cut : goal.returns-then-is_err-clause-cut
+returns-then-is_err-clause-cut g c = λ is. never_tape status.OutOfMemory _ (inr refl) is
+
+pub returns-clause-cut : goal.returns-clause-cut
+returns-clause-cut g c = IfErr-weaker c.write_text-2.result _ _ (λ answer cause is. never_tape answer _ cause is) c.write_text-2.ensures.cause

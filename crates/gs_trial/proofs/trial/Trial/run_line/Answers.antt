@@ -51,3 +51,12 @@ returns-clause-at_capture g c =
       (at is).1,
     ))
     c.run_step.ensures.at_capture
+
+pub returns-clause-taken : goal.returns-clause-taken
+returns-clause-taken g c = c.run_step.ensures.taken
+
+pub returns-in_default-clause-cut : goal.returns-in_default-clause-cut
+returns-in_default-clause-cut g c = λ is. absurd (c.end_at.ensures.not_of_source.0 is)
+
+pub returns-clause-cut : goal.returns-clause-cut
+returns-clause-cut g c = c.run_step.ensures.cut

@@ -3,7 +3,7 @@ use Rattle.gs_bytes.specs.Outside.{KeepsFlag}
 use Rattle.gs_schedule.specs.Lines.{TellsFlag}
 use Rattle.gs_run.specs.CaptureFile.{CaptureFile}
 use Rattle.gs_run.specs.Session.{State}
-use Rattle.gs_trial.specs.Standing.{IsReady, IsTrialOf}
+use Rattle.gs_trial.specs.Standing.{FeedHasTaken, IsReady, IsTrialOf}
 use Rattle.gs_trial.proofs.RunLines.{LedOn}
 use Rattle.gs_trial.proofs.trial.Trial.run_lines.Given as goal
 
@@ -21,6 +21,7 @@ invariant-lines g l =
           → schedule.left l.fn.schedule ≡ Some bytes
           → LedOn l.fn.self.reporter file bytes state (out.written l.fn.out) (out.written l.out) l.lines (schedule.left l.schedule) l.self
           (tape.left l.tape);
+      taken : (bytes : List ℕ) → FeedHasTaken bytes l.fn.self.feed (tape.left l.fn.tape) → FeedHasTaken bytes l.self.feed (tape.left l.tape);
       tells : TellsFlag (schedule.met_end l.fn.schedule) (schedule.met_end l.schedule);
       not_met : KeepsFlag (tape.met_end l.fn.tape) (tape.met_end l.tape);
       tape_faults : tape.faults l.tape ≡ tape.faults l.fn.tape;

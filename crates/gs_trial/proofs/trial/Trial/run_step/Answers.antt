@@ -12,6 +12,7 @@ use Rattle.gs_trial.specs.declared.error.StepError.{StepError}
 use Rattle.gs_trial.specs.declared.error.StepError.TheVariants as step_error
 use Rattle.gs_trial.proofs.RunLines.{waiting_part}
 use Rattle.gs_trial.proofs.Stopped.{fault_of_step, never_tape, whole_of}
+use Rattle.gs_trial.proofs.Taking.{cut_step, taken_same}
 use Rattle.std.specs.Io.KnownBytes.{Appends}
 use Rattle.gs_trial.proofs.trial.Trial.run_step.Goals.{then-is_told+in_ok-write_text-in-Err, else-is_told}
 use Rattle.gs_trial.proofs.trial.Trial.run_step.Goals as goal
@@ -122,3 +123,32 @@ returns-after-is_told-clause-at_capture g c = λ is.
         | else-is_told w ↦ subst At (sym (ap g.K.Outside.written w.out-is)) wrote
       ],
     )
+
+pub returns-in-Ok-clause-taken : goal.returns-in-Ok-clause-taken
+returns-in-Ok-clause-taken g c =
+    let old = c.args.self.now.feed in
+    let here = c.write_before_step.new.self.feed in
+    let new = c.write_piece.new.self.feed in
+    on_ok c.write_piece.result _ (λ bytes had.
+    taken_same c.step.new.self.feed new bytes _ c.write_piece.ensures.kept.feed
+    (c.in-Ok.ensures.bytes bytes (taken_same old here bytes _ c.in_ok-write_before_step.ensures.kept.feed had)))
+
+pub returns-in_err-write_before_step-clause-cut : goal.returns-in_err-write_before_step-clause-cut
+returns-in_err-write_before_step-clause-cut g c =
+    let p = err_from_is_err_and c.from_residual.result c.from_residual.ensures.1 in
+    rw (p.1, p.2) (λ is. never_tape _ _ c.in_err-write_before_step.ensures.cause is)
+
+pub returns-in_err-write_text-in-Err-clause-cut : goal.returns-in_err-write_text-in-Err-clause-cut
+returns-in_err-write_text-in-Err-clause-cut g c =
+    let p = err_from_is_err_and c.from_residual-in_err-write_text-in-Err.result c.from_residual-in_err-write_text-in-Err.ensures.1 in
+    rw (p.1, p.2) (λ is. never_tape _ _ c.in_err-write_text-in-Err.ensures.cause is)
+
+pub returns-in-Ok-clause-cut : goal.returns-in-Ok-clause-cut
+returns-in-Ok-clause-cut g c = IfErr-weaker c.write_piece.result _ _ (λ answer cause is. never_tape answer _ cause is) c.write_piece.ensures.cause
+
+pub returns-after-is_told-clause-cut : goal.returns-after-is_told-clause-cut
+returns-after-is_told-clause-cut g c = λ is bytes had.
+    let e = c.in-Err.error in
+    let fault : e ≡ step_error.Tape tape_error.TapeFault = fault_of_step e c.args.number (sym c.step_status.ensures ∙ is) in
+    cut_step e bytes c.args.self.now.feed c.write_before_step.new.self.feed c.step.new.self.feed _ _ c.in_ok-write_before_step.ensures.kept.feed fault
+    (c.in-Err.ensures.bytes bytes) had

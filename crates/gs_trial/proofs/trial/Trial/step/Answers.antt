@@ -5,6 +5,7 @@ use Rattle.gs_run.specs.Done.{ran}
 use Rattle.gs_run.specs.Line.{AreDeeds}
 use Rattle.gs_trial.specs.Stepping.{StepsIfTold}
 use Rattle.gs_trial.proofs.Told.{told_as}
+use Rattle.gs_trial.proofs.Taking.{takes_none}
 use Rattle.gs_report.proofs.Reported.{with_none}
 use Rattle.gs_trial.proofs.trial.Trial.step.Goals as goal
 
@@ -73,3 +74,64 @@ returns-in-Pump-clause-ran g c = λ file state stands.
     subst (λ (s : Step). StepsIfTold file s state (g.S.Outside.left c.args.tape.now) c.pump.new.self c.args.self.now.reporter c.pump.new.self.reporter
     c.pump.result) (sym c.in-Pump.is)
     (c.pump.ensures.ran file _ state stands)
+
+pub returns-in-Blank-clause-bytes : goal.returns-in-Blank-clause-bytes
+returns-in-Blank-clause-bytes g c = λ bytes had. had
+
+pub returns-in-Cap-clause-bytes : goal.returns-in-Cap-clause-bytes
+returns-in-Cap-clause-bytes g c = c.capture.ensures.bytes
+
+pub returns-in-Session-clause-bytes : goal.returns-in-Session-clause-bytes
+returns-in-Session-clause-bytes g c = λ bytes had.
+    takes_none c.args.self.now.feed c.open.new.self.feed c.open.result bytes _ c.open.ensures.feed c.open.ensures.own had
+
+pub returns-in-Send-clause-bytes : goal.returns-in-Send-clause-bytes
+returns-in-Send-clause-bytes g c = λ bytes had.
+    takes_none c.args.self.now.feed c.turn.new.self.feed c.turn.result bytes _ c.turn.ensures.feed c.turn.ensures.own had
+
+pub returns-in-Video-clause-bytes : goal.returns-in-Video-clause-bytes
+returns-in-Video-clause-bytes g c = λ bytes had.
+    takes_none c.args.self.now.feed c.deliver.new.self.feed c.deliver.result bytes _ c.deliver.ensures.feed c.deliver.ensures.own had
+
+pub returns-in-Audio-clause-bytes : goal.returns-in-Audio-clause-bytes
+returns-in-Audio-clause-bytes g c = λ bytes had.
+    takes_none c.args.self.now.feed c.deliver-in-Audio.new.self.feed c.deliver-in-Audio.result bytes _ c.deliver-in-Audio.ensures.feed
+    c.deliver-in-Audio.ensures.own had
+
+pub returns-in-Videos-clause-bytes : goal.returns-in-Videos-clause-bytes
+returns-in-Videos-clause-bytes g c = λ bytes had.
+    takes_none c.args.self.now.feed c.deliver_videos.new.self.feed c.deliver_videos.result bytes _ c.deliver_videos.ensures.feed
+    c.deliver_videos.ensures.own had
+
+pub returns-in-Up-clause-bytes : goal.returns-in-Up-clause-bytes
+returns-in-Up-clause-bytes g c = λ bytes had.
+    takes_none c.args.self.now.feed c.deliver-in-Up.new.self.feed c.deliver-in-Up.result bytes _ c.deliver-in-Up.ensures.feed c.deliver-in-Up.ensures.own had
+
+pub returns-in-Down-clause-bytes : goal.returns-in-Down-clause-bytes
+returns-in-Down-clause-bytes g c = λ bytes had.
+    takes_none c.args.self.now.feed c.deliver-in-Down.new.self.feed c.deliver-in-Down.result bytes _ c.deliver-in-Down.ensures.feed
+    c.deliver-in-Down.ensures.own had
+
+pub returns-in-Input-clause-bytes : goal.returns-in-Input-clause-bytes
+returns-in-Input-clause-bytes g c = λ bytes had.
+    takes_none c.args.self.now.feed c.give.new.self.feed c.give.result bytes _ c.give.ensures.feed c.give.ensures.own had
+
+pub returns-in-Idr-clause-bytes : goal.returns-in-Idr-clause-bytes
+returns-in-Idr-clause-bytes g c = λ bytes had.
+    takes_none c.args.self.now.feed c.ask_idr.new.self.feed c.ask_idr.result bytes _ c.ask_idr.ensures.feed c.ask_idr.ensures.own had
+
+pub returns-in-Time-clause-bytes : goal.returns-in-Time-clause-bytes
+returns-in-Time-clause-bytes g c = λ bytes had.
+    takes_none c.args.self.now.feed c.pass.new.self.feed c.pass.result bytes _ c.pass.ensures.feed c.pass.ensures.own had
+
+pub returns-in-Pump-clause-bytes : goal.returns-in-Pump-clause-bytes
+returns-in-Pump-clause-bytes g c = λ bytes had.
+    takes_none c.args.self.now.feed c.pump.new.self.feed c.pump.result bytes _ c.pump.ensures.feed c.pump.ensures.own had
+
+pub returns-in-Close-clause-bytes : goal.returns-in-Close-clause-bytes
+returns-in-Close-clause-bytes g c = λ bytes had.
+    takes_none c.args.self.now.feed c.close.new.self.feed c.close.result bytes _ c.close.ensures.feed c.close.ensures.own had
+
+pub returns-in-Reset-clause-bytes : goal.returns-in-Reset-clause-bytes
+returns-in-Reset-clause-bytes g c = λ bytes had.
+    takes_none c.args.self.now.feed c.reset.new.self.feed c.reset.result bytes _ c.reset.ensures.feed c.reset.ensures.own had
